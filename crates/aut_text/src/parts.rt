@@ -1,0 +1,90 @@
+//! Moves and the labels that they carry, as they are read.
+ghost use Rattle.std.specs.Prelude.{◌≡◌, ◌^◌, ◌-◌, ◌<◌, [], length, Some, None, option_map, IfSome, IfOk, OnOk, OnErr};
+ghost use Rattle.lts_base.specs.Alphabet.{IsLabel};
+ghost use Rattle.aut_text.specs.Parts.{IsParts, AddsMove};
+
+use crate::labels::LabelTable;
+use lts_base::{Memory, RawMove, RawMoves, Texts};
+use std::alloc::Global;
+use std::marker::Model;
+
+/// The moves read so far, with their labels in the order of first use.
+#[derive(Drop)]
+pub struct RawParts {
+    labels: LabelTable,
+    moves: Vec<RawMove>,
+}
+
+impl Model for RawParts {
+    ghost use Rattle.aut_text.specs.Parts.{Parts, IsParts};
+
+    ghost Value = { Parts };
+
+    ghost view = { λ a. record { moves = a.moves.items; labels = a.labels } };
+
+    ghost invariant = { λ a. IsParts (record { moves = a.moves.items; labels = a.labels }) };
+}
+
+impl RawParts {
+    /// No move and no label, which takes no memory.
+    pub fn new(alloc: Global) -> RawParts
+        ensures { result ≡ record { moves = []; labels = [] } }
+    {
+        RawParts {
+            labels: LabelTable::new(alloc),
+            moves: Vec::new(alloc),
+        }
+    }
+
+    /// Appends a move; a move without a label is one of Tau.
+    pub fn push(&mut self, from: u32, label: Option<&[u8]>, to: u32) -> Result<(), Memory>
+        requires few { length self.old.moves < 2 ^ 32 - 1 }
+        requires label { IfSome label (λ text. IsLabel text.now) }
+        ensures ok { OnOk result (AddsMove self.old self.new (record { from = from; label = option_map (λ text. text.now) label.entry; to = to })) }
+        ensures err { OnErr result (self.new ≡ self.old) }
+    {
+        match label {
+            None => self.push_tau(from, to),
+            Some(text) => self.push_labelled(from, text, to),
+        }
+    }
+
+    fn push_tau(&mut self, from: u32, to: u32) -> Result<(), Memory>
+        requires few { length self.old.moves < 2 ^ 32 - 1 }
+        ensures ok { OnOk result (AddsMove self.old self.new (record { from = from; label = None; to = to })) }
+        ensures err { OnErr result (self.new ≡ self.old) }
+    {
+        self.moves.reserve(1)?;
+        self.moves.push_reserved(RawMove {
+            from,
+            label: None,
+            to,
+        });
+        Ok(())
+    }
+
+    fn push_labelled(&mut self, from: u32, text: &[u8], to: u32) -> Result<(), Memory>
+        requires few { length self.old.moves < 2 ^ 32 - 1 }
+        requires label { IsLabel text.now }
+        ensures ok { OnOk result (AddsMove self.old self.new (record { from = from; label = Some text.now; to = to })) }
+        ensures err { OnErr result (self.new ≡ self.old) }
+    {
+        self.moves.reserve(1)?;
+        let label = self.labels.number_of(text)?;
+        self.moves.push_reserved(RawMove {
+            from,
+            label: Some(label),
+            to,
+        });
+        Ok(())
+    }
+
+    /// The labels and the moves.
+    pub fn into_lists(self) -> Result<(Texts, RawMoves), Memory>
+        ensures lists { IfOk result (λ lists. (lists.0 ≡ self.labels) × (lists.1 ≡ self.moves)) }
+        ensures parts { IsParts self }
+    {
+        let texts = self.labels.into_texts()?;
+        Ok((texts, RawMoves::from_vec(self.moves)))
+    }
+}

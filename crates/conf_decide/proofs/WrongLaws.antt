@@ -1,0 +1,59 @@
+-- The least item that one list shows and another doesn't, looked for by number.
+use Rattle.std.proofs.Common.{ℕ, ◌+◌, ◌<◌, ◌≤◌, ◌≡◌, inl, inr, arith}
+use Rattle.std.proofs.lemmas.Bool.{cases_lt}
+use Rattle.lts_base.specs.declared.item.Item.{Item}
+use Rattle.lts_base.specs.declared.item.Item.TheVariants.{Input, Output, Delta}
+use Rattle.lts_base.specs.System.{System, IsSystem, IsItemOf, label_count}
+use Rattle.lts_base.specs.After.{Shows}
+use Rattle.lts_base.specs.Order.{place}
+use Rattle.lts_base.specs.Reached.{Row, IsFine}
+use Rattle.lts_base.proofs.SetLaws.{Shows-item}
+use Rattle.walk_core.specs.Walked.{Walked}
+use Rattle.conf_decide.specs.declared.search.Setting.{Setting}
+use Rattle.conf_decide.specs.Progress.{IsFirstWrong, IsSetting}
+use Rattle.conf_decide.proofs.SearchLaws.{place_injective, place_below}
+
+-- of the items with numbers below this, the right list shows each that the left one shows
+abbrev pub IsFineBelow : System → System → Row → ℕ → Type 0
+IsFineBelow i s row number = (y : Item) → place (label_count i) y < number → Shows i row.left y → Shows s row.right y
+
+pub fine_inputs : (i s : System) (row : Row) (number : ℕ) → i.inputs ≡ number → IsFineBelow i s row number
+fine_inputs i s row number e (Input a) less (q, inside, gives) = absurd gives
+fine_inputs i s row number e (Output a) less (q, inside, (high, gives)) = absurd (omega (arith, e, less, high))
+fine_inputs i s row number e Delta less shows = absurd (omega (arith, e, less))
+
+pub fine_next : (i s : System) (row : Row) (number : ℕ) (x : Item) → IsSystem i → IsItemOf i x → place (label_count i) x ≡ number → (Shows i row.left x → Shows s row.right x) →
+    IsFineBelow i s row number → IsFineBelow i s row (number + 1)
+fine_next i s row number x system item here now fine y less shows =
+    elim (cases_lt (place (label_count i) y) number) [
+      | inl before ↦ fine y before shows
+      | inr after ↦
+          let e : x ≡ y = place_injective i x y item (Shows-item i row.left y system shows) (omega (arith, here, after, less)) in
+          rw e at now shows
+    ]
+
+pub fine_all : (i s : System) (row : Row) (number : ℕ) → IsSystem i → label_count i < number → IsFineBelow i s row number → IsFine i s row
+fine_all i s row number system over fine y shows = fine y (omega (arith, over, place_below i y (Shows-item i row.left y system shows))) shows
+
+pub wrong_first : (i s : System) (row : Row) (number : ℕ) (x : Item) → label_count i ≡ label_count s → place (label_count i) x ≡ number → Shows i row.left x → (Shows s row.right x → ⊥) →
+    IsFineBelow i s row number → IsFirstWrong i s row x
+wrong_first i s row number x same here shown unshown fine = record { shown = shown; unshown = unshown; least = least }
+  where
+    least : (y : Item) → Shows i row.left y → (Shows s row.right y → ⊥) → place (label_count s) x ≤ place (label_count s) y
+    least y shows lacks =
+        rw (← same) (elim (cases_lt (place (label_count i) y) number) [
+          | inl before ↦ absurd (lacks (fine y before shows))
+          | inr after ↦ omega (arith, after, here)
+        ])
+
+-- the item is one of both systems
+pub item_imp : (setting : Setting) (imp spec : Walked) (x : Item) → IsSetting setting imp spec → ((s : System) → s.inputs ≡ setting.inputs → s.outputs ≡ setting.outputs → IsItemOf s x) → IsItemOf imp.system x
+item_imp setting imp spec x set item = item imp.system set.imp_inputs set.imp_outputs
+
+pub item_spec : (setting : Setting) (imp spec : Walked) (x : Item) → IsSetting setting imp spec → ((s : System) → s.inputs ≡ setting.inputs → s.outputs ≡ setting.outputs → IsItemOf s x) → IsItemOf spec.system x
+item_spec setting imp spec x set item = item spec.system set.spec_inputs set.spec_outputs
+
+pub fine_step : (setting : Setting) (imp spec : Walked) (row : Row) (number : ℕ) (x : Item) → IsSetting setting imp spec → ((s : System) → s.inputs ≡ setting.inputs → s.outputs ≡ setting.outputs → IsItemOf s x) →
+    place (setting.inputs + setting.outputs) x ≡ number → (Shows imp.system row.left x → Shows spec.system row.right x) → IsFineBelow imp.system spec.system row number → IsFineBelow imp.system spec.system row (number + 1)
+fine_step setting imp spec row number x set item here now fine =
+    fine_next imp.system spec.system row number x set.imp_walk.system (item_imp setting imp spec x set item) (rw (set.imp_inputs, set.imp_outputs) here) now fine

@@ -1,0 +1,18 @@
+use Rattle.std.proofs.Common.{◌+◌, ◌*◌, ◌-◌, ◌≤◌, length}
+use Rattle.conf_decide.specs.Decided.{IsKept}
+use Rattle.conf_decide.specs.Progress.{IsSetting, IsRunOf}
+use Rattle.conf_decide.proofs.decide.look_on.Given as goal
+
+abbrev pub invariant-pairs : goal.invariant-pairs
+invariant-pairs g l =
+    record {
+      setting : IsSetting l.setting (g.A.Walk.walked l.imp) (g.B.Walk.walked l.spec);
+      imp : IsKept (g.A.Walk.walked l.fn.imp) (g.A.Walk.walked l.imp);
+      spec : IsKept (g.B.Walk.walked l.fn.spec) (g.B.Walk.walked l.spec);
+      run : IsRunOf l.setting (g.A.Walk.walked l.imp) (g.B.Walk.walked l.spec) l.table l.at 0;
+      within : l.at ≤ length l.table;
+      steps : l.steps ≤ l.fn.steps + 2 * (l.at * (l.setting.inputs + l.setting.outputs + 1));
+    }
+
+abbrev pub decreases-pairs : goal.decreases-pairs
+decreases-pairs g l = l.setting.most_pairs - l.at

@@ -1,0 +1,9 @@
+pub mod MoveLaws
+pub mod OrderLaws
+pub mod ListLaws
+pub mod Leads
+pub mod SetLaws
+pub mod DistinctLaws
+pub mod AllowedLaws
+pub mod LabelLaws
+pub mod SortingLaws

@@ -1,0 +1,29 @@
+use Rattle.std.proofs.Common.{◌≡◌, ℕ, List, map, subst, sym, ◌∙◌}
+use Rattle.lts_base.specs.Numbered.{AreNumbersOf, renumbered}
+use Rattle.lts_base.proofs.SortingLaws.{labels_below, AreMovesFor-renumbered}
+use Rattle.lts_base.proofs.sorting.system_of.Goals as goal
+
+pub moves_over-requires : goal.moves_over-requires
+moves_over-requires c =
+    let texts = c.as_slice.ensures ∙ c.labels.ensures.labels in
+    let numbers : AreNumbersOf c.args.labels.now c.args.raw.now.labels c.in_ok-numbers.numbers.items =
+    subst (λ (ts : List (List ℕ)). AreNumbersOf c.args.labels.now ts c.in_ok-numbers.numbers.items) texts c.in_ok-numbers.ensures in
+    rw (c.as_slice-2.ensures, c.moves.ensures.moves, c.deref.ensures.value)
+    (labels_below _ _ _ _ (sym numbers.long) c.labels.ensures.raw.moves)
+
+pub returns-in-Ok-clause-ok : goal.returns-in-Ok-clause-ok
+returns-in-Ok-clause-ok c =
+    let texts = c.as_slice.ensures ∙ c.labels.ensures.labels in
+    let numbers : AreNumbersOf c.args.labels.now c.args.raw.now.labels c.in_ok-numbers.numbers.items =
+    subst (λ (ts : List (List ℕ)). AreNumbersOf c.args.labels.now ts c.in_ok-numbers.numbers.items) texts c.in_ok-numbers.ensures in
+    let low = labels_below _ _ _ _ (sym numbers.long) c.labels.ensures.raw.moves in
+    let moves = AreMovesFor-renumbered c.args.labels.now c.args.raw.now c.in_ok-numbers.numbers.items numbers low in
+    let given : c.in_ok-moves.moves ≡ map (renumbered c.in_ok-numbers.numbers.items) c.args.raw.now.moves =
+    rw (c.as_slice-2.ensures, c.moves.ensures.moves, c.deref.ensures.value) at c.in_ok-moves.ensures in
+    record {
+      states = c.in-Ok.ensures.ok.0 ∙ c.states.ensures.states;
+      start = c.in-Ok.ensures.ok.1 ∙ c.start.ensures.start;
+      inputs = c.in-Ok.ensures.ok.2;
+      outputs = c.in-Ok.ensures.ok.3;
+      moves = (_, moves, rw (← given) c.in-Ok.ensures.moves);
+    }

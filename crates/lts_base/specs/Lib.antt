@@ -1,0 +1,15 @@
+pub mod System
+pub mod Path
+pub mod After
+pub mod Next
+pub mod Conformance
+pub mod Order
+pub mod Reached
+pub mod Related
+pub mod Shape
+pub mod Alphabet
+pub mod Numbering
+pub mod Built
+pub mod Raw
+pub mod Sorting
+pub mod Numbered

@@ -1,0 +1,4 @@
+pub mod MarkLaws
+pub mod Reaching
+pub mod OfferLaws
+pub mod CoinLabels

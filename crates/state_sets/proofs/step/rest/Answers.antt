@@ -1,0 +1,12 @@
+use Rattle.std.proofs.Common.{◌∙◌}
+use Rattle.state_sets.proofs.Reaching.{IsReaching-more, IsReaching-all}
+use Rattle.state_sets.proofs.step.rest.Goals as goal
+
+pub states-preserved : goal.states-preserved
+states-preserved c = record {
+  states = c.in_ok-add_quiet.ensures.states ∙ c.states.invariant.states;
+  reaching = IsReaching-more _ _ _ _ _ _ c.states-test.true c.in_ok-add_quiet.ensures.adds c.states.invariant.reaching;
+}
+
+pub returns-clause-adds : goal.returns-clause-adds
+returns-clause-adds c = IsReaching-all _ _ _ _ c.states-test.false c.states.invariant.reaching

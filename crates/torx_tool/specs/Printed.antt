@@ -1,0 +1,94 @@
+-- What the program prints for its answers, and its exit statuses.
+use Rattle.std.specs.Prelude.{ℕ, ◌<◌, List, [], ◌∷◌, ◌++◌, codes, decimal}
+use Rattle.std.specs.List.{flat_map}
+use Rattle.lts_base.specs.declared.item.Item.{Item}
+use Rattle.lts_base.specs.declared.item.Item.TheVariants.{Input, Output, Delta}
+use Rattle.lts_base.specs.declared.sorting.SplitError.{SplitError}
+use Rattle.lts_base.specs.declared.sorting.SplitError.TheVariants.{Unsorted, Reserved, TooManyLabels, Memory as NoRoomForLabels}
+use Rattle.lts_base.specs.Alphabet.{text_at}
+use Rattle.aut_text.specs.declared.error.AutError.{AutError}
+use Rattle.aut_text.specs.declared.error.AutError.TheVariants.{Strict, Memory as NoRoomForFile}
+use Rattle.conf_decide.specs.declared.answer.What.{What}
+use Rattle.conf_decide.specs.declared.answer.What.TheVariants.{Pairs, ImpMembers, SpecMembers}
+use Rattle.torx_tool.specs.declared.words.UsageKind.{UsageKind}
+use Rattle.torx_tool.specs.declared.words.UsageKind.TheVariants.{NoCommand, UnknownCommand, Words}
+use Rattle.torx_tool.specs.declared.status.FileError.{FileError}
+use Rattle.torx_tool.specs.declared.status.FileError.TheVariants.{Aut}
+use Rattle.torx_tool.specs.declared.status.Status.{Status}
+use Rattle.torx_tool.specs.declared.status.Status.TheVariants.{Conforms, Violates, Undecided, Usage, TooLong, BadFile, BadLabels, FileFault, OutFault, Memory}
+
+-- the exit status of each answer
+abbrev pub code_of : Status → ℕ
+code_of (Conforms pairs) = 0
+code_of (Violates trace shown) = 1
+code_of (Undecided what reached depth) = 2
+code_of (Usage kind) = 3
+code_of (TooLong name) = 4
+code_of (BadFile name error) = 4
+code_of (BadLabels error) = 4
+code_of (FileFault name) = 5
+code_of OutFault = 6
+code_of Memory = 8
+
+-- a line: two pieces and an LF
+abbrev pub line : List ℕ → List ℕ → List ℕ
+line front rest = front ++ (rest ++ 10 ∷ [])
+
+-- an item as it is printed, by the texts of the labels
+abbrev pub item_text : List (List ℕ) → Item → List ℕ
+item_text texts (Input a) = text_at texts a
+item_text texts (Output a) = text_at texts a
+item_text texts Delta = codes "delta"
+
+-- a trace: a line for each item
+abbrev pub trace_text : List (List ℕ) → List Item → List ℕ
+trace_text texts trace = flat_map (λ (x : Item). line (codes "after ") (item_text texts x)) trace
+
+abbrev pub what_text : What → List ℕ
+what_text Pairs = codes "undecided pairs="
+what_text ImpMembers = codes "undecided imp-members="
+what_text SpecMembers = codes "undecided spec-members="
+
+abbrev pub kind_text : UsageKind → List ℕ
+kind_text NoCommand = codes "no-command"
+kind_text UnknownCommand = codes "unknown-command"
+kind_text Words = codes "words"
+
+abbrev pub aut_text : AutError → List ℕ
+aut_text (Strict line) = codes "strict " ++ decimal line
+aut_text NoRoomForFile = []
+
+abbrev pub error_text : FileError → List ℕ
+error_text (Aut error) = aut_text error
+
+abbrev pub labels_text : SplitError → List ℕ
+labels_text (Unsorted told) = line (codes "labels unsorted ") told
+labels_text (Reserved told) = line (codes "labels reserved ") told
+labels_text TooManyLabels = line (codes "labels too-many") []
+labels_text NoRoomForLabels = []
+
+-- the whole text of an answer, by the texts of the labels
+abbrev pub text_of : List (List ℕ) → Status → List ℕ
+text_of texts (Conforms pairs) = line (codes "conforms pairs=") (decimal pairs)
+text_of texts (Violates trace shown) = line (codes "violates") [] ++ (trace_text texts trace ++ line (codes "shows ") (item_text texts shown))
+text_of texts (Undecided what reached depth) = what_text what ++ (decimal reached ++ line (codes " depth=") (decimal depth))
+text_of texts (Usage kind) = line (codes "usage ") (kind_text kind)
+text_of texts (TooLong name) = line (codes "too-long ") name
+text_of texts (BadFile name error) = codes "bad " ++ (name ++ line (codes " ") (error_text error))
+text_of texts (BadLabels error) = labels_text error
+text_of texts (FileFault name) = line (codes "fault ") name
+text_of texts OutFault = []
+text_of texts Memory = []
+
+-- the item is one of the alphabet with n labels
+abbrev pub IsPrintable : ℕ → Item → Type 0
+IsPrintable n (Input a) = a < n
+IsPrintable n (Output a) = a < n
+IsPrintable n Delta = Unit {0}
+
+-- the answer is a refusal: no decision was made
+abbrev pub IsRefusal : Status → Type 0
+IsRefusal (Conforms pairs) = ⊥
+IsRefusal (Violates trace shown) = ⊥
+IsRefusal (Undecided what reached depth) = ⊥
+IsRefusal other = Unit {0}

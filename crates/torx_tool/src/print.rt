@@ -1,0 +1,164 @@
+//! The texts of the answers.
+ghost use Rattle.std.specs.Prelude.{◌≡◌, ◌++◌, List, [], length, All, OnOk, IfOk, codes, decimal, string_bytes};
+ghost use Rattle.torx_tool.specs.Printed.{line, item_text, trace_text, what_text, kind_text, aut_text as aut_error_text, error_text, labels_text, text_of, IsPrintable, IsRefusal};
+
+use crate::status::{FileError, Status};
+use crate::words::UsageKind;
+use aut_text::AutError;
+use conf_decide::What;
+use lts_base::{Item, Labels, Listed, SplitError, Text};
+use std::alloc::{AllocError, Global};
+
+/// Appends a line of two pieces.
+fn put_line(text: &mut Vec<u8>, front: &[u8], rest: &[u8]) -> Result<(), AllocError>
+    ensures { OnOk result (text.new.items ≡ text.old.items ++ line front.now rest.now) }
+{
+    text.extend_from_slice(front)?;
+    text.extend_from_slice(rest)?;
+    text.extend_from_slice(b"\n")
+}
+
+/// An item as it is printed.
+fn item_bytes<'a>(labels: &'a Labels, item: Item) -> &'a [u8]
+    requires { IsPrintable (length labels.now.texts) item }
+    ensures { result.now ≡ item_text labels.now.texts item }
+{
+    match item {
+        Item::Input(label) => labels.text(label),
+        Item::Output(label) => labels.text(label),
+        Item::Delta => b"delta",
+    }
+}
+
+/// Appends a line for each item of a trace.
+fn put_trace(text: &mut Vec<u8>, labels: &Labels, trace: &[Item]) -> Result<(), AllocError>
+    requires { All (IsPrintable (length labels.now.texts)) trace.now }
+    ensures { OnOk result (text.new.items ≡ text.old.items ++ trace_text labels.now.texts trace.now) }
+{
+    'items: for item in trace {
+        put_line(text, b"after ", item_bytes(labels, *item))?;
+    }
+    Ok(())
+}
+
+/// The text of a violation.
+pub fn violation(
+    alloc: Global,
+    labels: &Labels,
+    trace: &[Item],
+    shown: Item,
+) -> Result<Text, AllocError>
+    requires trace { All (IsPrintable (length labels.now.texts)) trace.now }
+    requires shown { IsPrintable (length labels.now.texts) shown }
+    ensures { IfOk result (λ text. text ≡ line (codes "violates") [] ++ (trace_text labels.now.texts trace.now ++ line (codes "shows ") (item_text labels.now.texts shown))) }
+{
+    let mut text = Vec::new(alloc);
+    put_line(&mut text, b"violates", b"")?;
+    put_trace(&mut text, labels, trace)?;
+    put_line(&mut text, b"shows ", item_bytes(labels, shown))?;
+    Ok(Listed::from_vec(text))
+}
+
+/// The text of conformance.
+pub fn conformance(alloc: Global, pairs: u32) -> Result<Text, AllocError>
+    ensures { IfOk result (λ text. text ≡ line (codes "conforms pairs=") (decimal pairs)) }
+{
+    let number = pairs.to_string(alloc)?;
+    one_line(alloc, b"conforms pairs=", number.as_bytes())
+}
+
+/// The text of a decision that a limit cut.
+pub fn cut(alloc: Global, what: What, reached: u64, depth: u32) -> Result<Text, AllocError>
+    ensures { IfOk result (λ text. text ≡ what_text what ++ (decimal reached ++ line (codes " depth=") (decimal depth))) }
+{
+    let front: &[u8] = match what {
+        What::Pairs => b"undecided pairs=",
+        What::ImpMembers => b"undecided imp-members=",
+        What::SpecMembers => b"undecided spec-members=",
+    };
+    numbered(alloc, front, reached, depth)
+}
+
+fn numbered(alloc: Global, front: &[u8], reached: u64, depth: u32) -> Result<Text, AllocError>
+    ensures { IfOk result (λ text. text ≡ front.now ++ (decimal reached ++ line (codes " depth=") (decimal depth))) }
+{
+    let mut text = Vec::from_slice(alloc, front)?;
+    let count = reached.to_string(alloc)?;
+    text.extend_from_slice(count.as_bytes())?;
+    let length = depth.to_string(alloc)?;
+    put_line(&mut text, b" depth=", length.as_bytes())?;
+    Ok(Listed::from_vec(text))
+}
+
+fn one_line(alloc: Global, front: &[u8], rest: &[u8]) -> Result<Text, AllocError>
+    ensures { IfOk result (λ text. text ≡ line front.now rest.now) }
+{
+    let mut text = Vec::new(alloc);
+    put_line(&mut text, front, rest)?;
+    Ok(Listed::from_vec(text))
+}
+
+/// The text of words that are no command.
+pub fn usage(alloc: Global, kind: UsageKind) -> Result<Text, AllocError>
+    ensures { IfOk result (λ text. text ≡ line (codes "usage ") (kind_text kind)) }
+{
+    match kind {
+        UsageKind::NoCommand => one_line(alloc, b"usage ", b"no-command"),
+        UsageKind::UnknownCommand => one_line(alloc, b"usage ", b"unknown-command"),
+        UsageKind::Words => one_line(alloc, b"usage ", b"words"),
+    }
+}
+
+/// The text of labels that can't be sorted.
+pub fn bad_labels(alloc: Global, error: &SplitError) -> Result<Text, AllocError>
+    ensures { IfOk result (λ text. text ≡ labels_text error.now) }
+{
+    match error {
+        SplitError::Unsorted(label) => one_line(alloc, b"labels unsorted ", label.as_slice()),
+        SplitError::Reserved(label) => one_line(alloc, b"labels reserved ", label.as_slice()),
+        SplitError::TooManyLabels => one_line(alloc, b"labels too-many", b""),
+        SplitError::Memory => Ok(Listed::new(alloc)),
+    }
+}
+
+/// The text of a file that isn't in its grammar.
+pub fn bad_file(alloc: Global, name: &[u8], error: &FileError) -> Result<Text, AllocError>
+    ensures { IfOk result (λ text. text ≡ codes "bad " ++ (name.now ++ line (codes " ") (error_text error.now))) }
+{
+    let told = file_error(alloc, error)?;
+    let mut text = Vec::from_slice(alloc, b"bad ")?;
+    text.extend_from_slice(name)?;
+    put_line(&mut text, b" ", told.as_bytes())?;
+    Ok(Listed::from_vec(text))
+}
+
+fn file_error(alloc: Global, error: &FileError) -> Result<String, AllocError>
+    ensures { IfOk result (λ text. string_bytes text ≡ error_text error.now) }
+{
+    let FileError::Aut(error) = error;
+    match error {
+        AutError::Strict(line) => strict(alloc, *line),
+        AutError::Memory => Ok(String::new(alloc)),
+    }
+}
+
+fn strict(alloc: Global, line: u32) -> Result<String, AllocError>
+    ensures { IfOk result (λ text. string_bytes text ≡ codes "strict " ++ decimal line) }
+{
+    format!(in alloc; "strict {line}")
+}
+
+/// The text of a refusal, which needs no labels.
+pub fn refusal(alloc: Global, status: &Status) -> Result<Text, AllocError>
+    requires { IsRefusal status.now }
+    ensures { IfOk result (λ text. text ≡ text_of [] status.now) }
+{
+    match status {
+        Status::Usage { kind } => usage(alloc, *kind),
+        Status::TooLong { name } => one_line(alloc, b"too-long ", name.as_slice()),
+        Status::BadFile { name, error } => bad_file(alloc, name.as_slice(), error),
+        Status::BadLabels { error } => bad_labels(alloc, error),
+        Status::FileFault { name } => one_line(alloc, b"fault ", name.as_slice()),
+        _ => Ok(Listed::new(alloc)),
+    }
+}

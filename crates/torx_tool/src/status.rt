@@ -1,0 +1,93 @@
+//! The answers of the program, and their exit statuses.
+ghost use Rattle.std.specs.Prelude.{◌≡◌};
+ghost use Rattle.torx_tool.specs.Printed.{code_of};
+
+use crate::words::UsageKind;
+use aut_text::AutError;
+use conf_decide::What;
+use lts_base::{Item, SplitError, Text, Trace};
+
+/// Why a file isn't in its grammar. Want of memory never stands here.
+#[derive(Drop, Debug)]
+pub enum FileError {
+    /// It is no Aldebaran file.
+    Aut(AutError),
+}
+
+/// The answer of a run.
+#[derive(Drop, Debug)]
+pub enum Status {
+    /// The implementation conforms to the specification, and so many pairs of sets were reached.
+    Conforms {
+        /// The number of pairs.
+        pairs: u32,
+    },
+    /// The first violation.
+    Violates {
+        /// The least violating trace.
+        trace: Trace,
+        /// The least item that violates after it.
+        shown: Item,
+    },
+    /// A limit was passed before the decision was made.
+    Undecided {
+        /// The limit.
+        what: What,
+        /// How far it was passed.
+        reached: u64,
+        /// The length of the least trace at which it was passed.
+        depth: u32,
+    },
+    /// The words aren't a command.
+    Usage {
+        /// Why.
+        kind: UsageKind,
+    },
+    /// A file has more bytes than can be read.
+    TooLong {
+        /// Its name.
+        name: Text,
+    },
+    /// A file isn't in its grammar.
+    BadFile {
+        /// Its name.
+        name: Text,
+        /// The first fault.
+        error: FileError,
+    },
+    /// The labels of the files can't be sorted.
+    BadLabels {
+        /// The first label at fault, or that there are too many.
+        error: SplitError,
+    },
+    /// A file couldn't be read.
+    FileFault {
+        /// Its name.
+        name: Text,
+    },
+    /// The output failed.
+    OutFault,
+    /// Memory ran out; nothing was written.
+    Memory,
+}
+
+impl Status {
+    /// The exit status of the program: 0 yes, 1 no, 2 not settled, 3 words, 4 content, 5 file,
+    /// 6 output, 8 memory.
+    pub fn code(&self) -> u8
+        ensures { result ≡ code_of self.now }
+    {
+        match self {
+            Status::Conforms { .. } => 0,
+            Status::Violates { .. } => 1,
+            Status::Undecided { .. } => 2,
+            Status::Usage { .. } => 3,
+            Status::TooLong { .. } => 4,
+            Status::BadFile { .. } => 4,
+            Status::BadLabels { .. } => 4,
+            Status::FileFault { .. } => 5,
+            Status::OutFault => 6,
+            Status::Memory => 8,
+        }
+    }
+}

@@ -1,0 +1,125 @@
+//! Worked cases: words and files in memory, and what is printed for them.
+use crate::run::run;
+use edge_io::{Contents, MemFiles, MemSink, NamedText, Numbers};
+use lts_base::{Listed, Memory};
+use std::alloc::{AllocError, Global};
+use std::test::Fail;
+
+/// The files that the cases speak of.
+const FILES: [(&str, &str); 12] = [
+    (
+        "S.aut",
+        "des (0,3,3)\n(0,\"?coin\",1)\n(1,\"!tea\",2)\n(1,\"!coffee\",2)\n",
+    ),
+    (
+        "I.aut",
+        "des (0,4,3)\n(0,\"?coin\",1)\n(1,\"!tea\",2)\n(1,\"?coin\",1)\n(2,\"?coin\",2)\n",
+    ),
+    ("M.aut", "des (0,2,3)\n(0,\"?coin\",1)\n(1,\"!milk\",2)\n"),
+    ("Q.aut", "des (0,1,2)\n(0,\"?coin\",1)\n"),
+    ("E.aut", "des (0,0,1)\n"),
+    ("X.aut", "des (0,1,2)\n(0,\"!x\",1)\n"),
+    (
+        "U.aut",
+        "des (0,4,5)\n(0,\"?a\",1)\n(0,\"?a\",2)\n(1,\"?b\",3)\n(3,\"!x\",4)\n",
+    ),
+    (
+        "V.aut",
+        "des (0,3,4)\n(0,\"?a\",1)\n(1,\"?b\",2)\n(2,\"!y\",3)\n",
+    ),
+    ("R.aut", "des (0,2,2)\n(0,\"?a\",1)\n(1,\"!x\",0)\n"),
+    (
+        "W.aut",
+        "des (0,6,4)\n(0,\"?a\",1)\n(1,\"!x\",2)\n(2,\"?a\",3)\n(3,\"!y\",3)\n(1,\"?a\",1)\n(3,\"?a\",3)\n",
+    ),
+    (
+        "C.aut",
+        "des (0,4,3)\n(0,\"?coin\",1)\n(1,\"!tea\",2)\n(1,\"!coffee\",2)\n",
+    ),
+    ("G.aut", "des (0,1,2)\n(0,\"coin\",1)\n"),
+];
+
+fn contents(alloc: Global) -> Result<Contents, Memory> {
+    let mut contents = Listed::new(alloc);
+    for (name, content) in FILES {
+        contents.push(NamedText {
+            name: Listed::from_vec(Vec::from_slice(alloc, name.as_bytes())?),
+            content: Listed::from_vec(Vec::from_slice(alloc, content.as_bytes())?),
+        })?;
+    }
+    contents.push(NamedText {
+        name: Listed::from_vec(Vec::from_slice(alloc, b"Z.aut")?),
+        content: Listed::new(alloc),
+    })?;
+    Ok(contents)
+}
+
+fn words_of(alloc: Global, line: &str) -> Result<Vec<String>, AllocError> {
+    let mut words = Vec::new(alloc);
+    for word in line.split_whitespace() {
+        words.push(String::from_str(alloc, word)?)?;
+    }
+    Ok(words)
+}
+
+#[test]
+fn prints_the_answer(rt: HostRuntime) -> Result<(), Fail> {
+    let alloc = rt.alloc();
+    let rows: [(&str, &str, u8); 16] = [
+        ("check S.aut I.aut", "conforms pairs=3\n", 0),
+        (
+            "check S.aut M.aut",
+            "violates\nafter ?coin\nshows !milk\n",
+            1,
+        ),
+        (
+            "check S.aut Q.aut",
+            "violates\nafter ?coin\nshows delta\n",
+            1,
+        ),
+        ("check E.aut X.aut", "violates\nshows !x\n", 1),
+        (
+            "check U.aut V.aut",
+            "violates\nafter ?a\nafter ?b\nshows !y\n",
+            1,
+        ),
+        (
+            "check R.aut W.aut",
+            "violates\nafter ?a\nafter !x\nafter ?a\nshows !y\n",
+            1,
+        ),
+        ("check Z.aut I.aut", "bad Z.aut strict 1\n", 4),
+        ("check C.aut I.aut", "bad C.aut strict 5\n", 4),
+        ("check S.aut C.aut", "bad C.aut strict 5\n", 4),
+        ("check G.aut I.aut", "labels unsorted coin\n", 4),
+        ("check N.aut I.aut", "fault N.aut\n", 5),
+        ("check S.aut N.aut", "fault N.aut\n", 5),
+        ("", "usage no-command\n", 3),
+        ("check S.aut", "usage words\n", 3),
+        ("check S.aut -I", "usage words\n", 3),
+        ("chek S.aut I.aut", "usage unknown-command\n", 3),
+    ];
+    for (line, want, code) in rows {
+        let mut files = MemFiles::new(contents(alloc)?, Numbers::new(alloc));
+        let mut out = MemSink::new(alloc, 1000, 1000, Numbers::new(alloc))?;
+        let words = words_of(alloc, line)?;
+        let status = run(alloc, &words, &mut files, &mut out);
+        assert_eq!(rt; out.written(), want.as_bytes());
+        assert_eq!(rt; status.code(), code);
+    }
+    Ok(())
+}
+
+#[test]
+fn tells_that_the_output_failed(rt: HostRuntime) -> Result<(), Fail> {
+    let alloc = rt.alloc();
+    let mut fails = Numbers::new(alloc);
+    fails.push(2)?;
+    let mut files = MemFiles::new(contents(alloc)?, Numbers::new(alloc));
+    let mut out = MemSink::new(alloc, 1000, 4, fails)?;
+    let words = words_of(alloc, "check S.aut I.aut")?;
+    let status = run(alloc, &words, &mut files, &mut out);
+    assert_eq!(rt; out.written(), b"conf".as_slice());
+    assert_eq!(rt; status.code(), 6);
+    Ok(())
+}

@@ -1,0 +1,3 @@
+pub mod Walked
+pub mod Refused
+pub mod Plain

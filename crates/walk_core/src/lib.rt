@@ -1,0 +1,15 @@
+//! The suspension automaton of a system, made as far as it is asked for: walks from set to set.
+#![tactic(auto)]
+
+pub mod node;
+pub mod plain;
+pub mod steps;
+pub mod walk;
+
+pub use node::Node;
+pub use plain::PlainWalk;
+pub use steps::Steps;
+pub use walk::{Walk, WalkError};
+
+#[cfg(test)]
+mod tests;
