@@ -1,10 +1,13 @@
-//! Aldebaran files: their reader.
+//! Aldebaran files: their reader and their printer.
 #![tactic(auto)]
 
 mod error;
+mod form;
+mod header;
 mod labels;
 mod line;
 mod parts;
+mod printer;
 mod reader;
 #[cfg(test)]
 mod tests;
@@ -12,4 +15,5 @@ mod tests;
 pub use error::AutError;
 pub use labels::LabelTable;
 pub use parts::RawParts;
+pub use printer::print;
 pub use reader::AutReader;

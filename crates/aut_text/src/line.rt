@@ -1,94 +1,86 @@
-//! One line of the strict form.
-ghost use Rattle.std.specs.Prelude.{◌≡◌, ◌<◌, ◌≤◌, ◌+◌, length, All, IsTrue, IfSome};
+//! The line of a move.
+ghost use Rattle.std.specs.Prelude.{◌≡◌, ◌≤◌, ◌<◌, true, length, option_map, MatchResult};
 ghost use Rattle.lts_base.specs.Alphabet.{IsLabel};
+ghost use Rattle.text_scan.specs.Lines as lines;
+ghost use Rattle.aut_text.specs.Parts.{named_moves};
+ghost use Rattle.aut_text.specs.Form as form;
+ghost use Rattle.aut_text.specs.Grammar as grammar;
+ghost use Rattle.aut_text.specs.Faults.{IsLineFault};
+ghost use Rattle.aut_text.specs.Reading.{IsNextMove, AddsLine};
 
-use memchr::memchr;
+use crate::error::AutError;
+use crate::form::move_of;
+use crate::parts::RawParts;
 use std::str;
+use text_scan::{trim, without_cr};
 
-/// The bytes before the first mark and those after it.
-pub(crate) fn cut(bytes: &[u8], mark: u8) -> Option<(&[u8], &[u8])>
-    ensures { IfSome result (λ p. length p.1.now < length bytes.now) }
+/// Whether the line isn't one of blanks alone.
+pub(crate) fn is_text(line: &[u8]) -> bool
+    ensures { result ≡ grammar.is_text line.now }
 {
-    match memchr(mark, bytes) {
-        None => None,
-        Some(place) => Some((&bytes[..place], &bytes[place + 1..])),
-    }
+    !trim(without_cr(line)).is_empty()
 }
 
-/// The number of a decimal without needless zeros, if it is at most `most`.
-fn number(bytes: &[u8], most: u32) -> Option<u32>
-    ensures { IfSome result (λ n. n ≤ most) }
+/// Adds the move of line `number`, unless the line is blank.
+pub(crate) fn add_line(
+    parts: &mut RawParts,
+    line: &[u8],
+    number: u32,
+    states: u64,
+) -> Result<(), AutError>
+    requires { states ≤ 65536 }
+    ensures { MatchResult result (λ _. AddsLine states line.now (named_moves parts.old) (named_moves parts.new)) (λ e. (grammar.is_text line.now ≡ true) × IsLineFault states (length parts.old.moves) line.now number e) }
 {
-    match bytes {
-        [] => return None,
-        [b'0', _, ..] => return None,
-        [b'+', ..] => return None,
-        _ => {}
+    if !is_text(line) {
+        return Ok(());
     }
-    let text = str::from_utf8(bytes).ok()?;
-    let value = text.parse::<u32>().ok()?;
-    if value > most {
-        return None;
-    }
-    Some(value)
+    let (from, label, to) = read_move(line, number, parts.count(), states)?;
+    parts.push(from, visible(label), to)?;
+    Ok(())
 }
 
-/// Whether the bytes are the text of a label.
-pub(crate) fn is_label(text: &[u8]) -> bool
-    ensures { IsTrue result → IsLabel text.now }
+/// The move that line `number` writes; `count` moves stand before it.
+pub(crate) fn read_move(
+    line: &[u8],
+    number: u32,
+    count: usize,
+    states: u64,
+) -> Result<(u32, &[u8], u32), AutError>
+    requires { states ≤ 65536 }
+    ensures { MatchResult result (λ m. IsNextMove states count line.now (record { from = m.0; label = m.1.now; to = m.2 })) (IsLineFault states count line.now number) }
 {
-    if text.is_empty() {
-        return false;
+    if line.len() > 4096 {
+        return Err(AutError::Line(number));
     }
-    if text.len() > 1024 {
-        return false;
+    let text = without_cr(line);
+    if str::from_utf8(text).is_err() {
+        return Err(AutError::NotUtf8(number));
     }
-    if !is_plain(text) {
-        return false;
+    let Some((from, label, to)) = move_of(text) else {
+        return Err(AutError::Line(number));
+    };
+    if count >= 1_048_576 {
+        return Err(AutError::TooManyMoves);
     }
-    str::from_utf8(text).is_ok()
-}
-
-fn is_plain(text: &[u8]) -> bool
-    ensures { IsTrue result → All (λ b. 32 ≤ b) text.now }
-{
-    text.iter().all(|b| *b >= 32)
-}
-
-/// The start, the number of moves and the number of states of a first line.
-pub(crate) fn header(line: &[u8]) -> Option<(u32, u32, u32)>
-    ensures { IfSome result (λ h. (h.0 < h.2) × (h.1 ≤ 1048576)) }
-{
-    let inner = line.strip_prefix(b"des (")?;
-    let (start, after) = cut(inner, b',')?;
-    let (count, last) = cut(after, b',')?;
-    let states = number(last.strip_suffix(b")")?, 65_536)?;
-    let count = number(count, 1_048_576)?;
-    let start = number(start, 65_535)?;
-    if start >= states {
-        return None;
-    }
-    Some((start, count, states))
-}
-
-/// The start, the label and the end of a move's line.
-pub(crate) fn move_of(line: &[u8], states: u32) -> Option<(u32, &[u8], u32)>
-    ensures { IfSome result (λ m. IsLabel m.1.now) }
-{
-    let inner = line.strip_prefix(b"(")?;
-    let (from, after) = cut(inner, b',')?;
-    let (label, last) = cut(after.strip_prefix(b"\"")?, b'"')?;
-    let to = last.strip_prefix(b",")?.strip_suffix(b")")?;
-    let from = number(from, 65_535)?;
-    let to = number(to, 65_535)?;
     if from >= states {
-        return None;
+        return Err(AutError::State(number));
     }
     if to >= states {
-        return None;
+        return Err(AutError::State(number));
     }
-    if !is_label(label) {
-        return None;
+    if label.len() > 1024 {
+        return Err(AutError::LabelLong(number));
     }
-    Some((from, label, to))
+    Ok((from as u32, label, to as u32))
+}
+
+/// The label, unless it is that of the internal action.
+fn visible(label: &[u8]) -> Option<&[u8]>
+    ensures { option_map (λ text. text.now) result ≡ form.visible label.now }
+{
+    match label {
+        b"i" => None,
+        b"tau" => None,
+        text => Some(text),
+    }
 }

@@ -36,6 +36,13 @@ impl RawParts {
         }
     }
 
+    /// How many moves there are.
+    pub fn count(&self) -> usize
+        ensures { result ≡ length self.now.moves }
+    {
+        self.moves.len()
+    }
+
     /// Appends a move; a move without a label is one of Tau.
     pub fn push(&mut self, from: u32, label: Option<&[u8]>, to: u32) -> Result<(), Memory>
         requires few { length self.old.moves < 2 ^ 32 - 1 }

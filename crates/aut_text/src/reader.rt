@@ -1,13 +1,19 @@
 //! The reader of Aldebaran files.
-ghost use Rattle.std.specs.Prelude.{◌≡◌, ◌^◌, ◌<◌, ◌≤◌, [], ◌++◌, length, IfSome, IfOk, OnOk, OnErr};
-ghost use Rattle.lts_base.specs.Alphabet.{IsLabel};
+ghost use Rattle.std.specs.Prelude.{◌≡◌, ◌⊎◌, ◌+◌, ◌-◌, ◌^◌, ◌<◌, ◌≤◌, [], ◌++◌, length, All, MatchOption, MatchResult, IfOk, IfErr, OnOk, OnErr};
+ghost use Rattle.text_scan.specs.Lines.{lines_of};
+ghost use Rattle.aut_text.specs.Parts.{named_moves};
+ghost use Rattle.aut_text.specs.Grammar.{AreMoves, IsHeaded, IsBlankContent, IsAut, SaysSame};
+ghost use Rattle.aut_text.specs.Faults.{IsFaultAmong, RefusesAut};
+ghost use Rattle.aut_text.specs.Reading.{IsWithin};
 
 use crate::error::AutError;
-use crate::line::{cut, header, move_of};
+use crate::header::{Header, read_header};
+use crate::line::{add_line, is_text};
 use crate::parts::RawParts;
-use lts_base::{Memory, RawLts};
+use lts_base::{LtsError, Memory, RawLts};
 use std::alloc::Global;
 use std::marker::Model;
+use text_scan::split_line;
 
 /// Joins the pieces of a file, and reads it when they are all there.
 #[derive(Drop)]
@@ -39,57 +45,94 @@ impl AutReader {
     pub fn feed(&mut self, piece: &[u8]) -> Result<(), AutError>
         ensures ok { OnOk result (self.new ≡ self.old ++ piece.now) }
         ensures err { OnErr result (self.new ≡ self.old) }
+        ensures memory { IfErr result (λ e. e ≡ AutError.Memory) }
     {
         self.content.extend_from_slice(piece)?;
         Ok(())
     }
 
-    /// Reads the content.
-    pub fn end(self) -> Result<RawLts, AutError> {
-        let Some((line, rest)) = cut(&self.content, b'\n') else {
-            return Err(AutError::Strict(1));
-        };
-        let Some((start, count, states)) = header(line) else {
-            return Err(AutError::Strict(1));
-        };
-        let (labels, moves) = read_moves(self.alloc, rest, count, states)?.into_lists()?;
-        match RawLts::build(states, start, labels, moves) {
-            Ok(raw) => Ok(raw),
-            Err(_) => Err(AutError::Strict(1)),
-        }
+    /// Reads the content, which has fewer than 2^32 - 1 lines.
+    pub fn end(self) -> Result<RawLts, AutError>
+        requires { length (lines_of self) < 2 ^ 32 - 1 }
+        ensures read { MatchResult result (IsAut self) (RefusesAut self) }
+        ensures only { (r : _) → IsAut self r → MatchResult result (SaysSame r) (λ e. e ≡ AutError.Memory) }
+        ensures fault { (e : _) → RefusesAut self e → (e ≡ AutError.Memory → ⊥) → MatchResult result (λ _. ⊥) (λ f. (f ≡ e) ⊎ (f ≡ AutError.Memory)) }
+    {
+        read_content(self.alloc, &self.content)
     }
 }
 
-fn read_moves(alloc: Global, bytes: &[u8], count: u32, states: u32) -> Result<RawParts, AutError>
-    requires { count ≤ 1048576 }
-    ensures { IfOk result (λ parts. length parts.moves ≤ 1048576) }
+fn read_content(alloc: Global, content: &[u8]) -> Result<RawLts, AutError>
+    requires { length (lines_of content.now) < 2 ^ 32 - 1 }
+    ensures { MatchResult result (IsAut content.now) (RefusesAut content.now) }
+{
+    let Some((head, number, rest)) = find_head(content) else {
+        return Err(AutError::Header);
+    };
+    let header = read_header(head)?;
+    let parts = read_moves(alloc, rest, number, header.states)?;
+    finish(header, parts)
+}
+
+/// The first line that isn't blank, its number and the bytes after it.
+fn find_head(bytes: &[u8]) -> Option<(&[u8], u32, &[u8])>
+    requires { length (lines_of bytes.now) < 2 ^ 32 - 1 }
+    ensures { MatchOption result (IsBlankContent bytes.now) (λ head. IsHeaded bytes.now head.0.now head.1 (lines_of head.2.now)) }
+{
+    let mut rest = bytes;
+    let mut number: u32 = 0;
+    while let Some((line, after)) = split_line(rest) {
+        number += 1;
+        if is_text(line) {
+            return Some((line, number, after));
+        }
+        rest = after;
+    }
+    None
+}
+
+/// The moves of the lines that follow line `number`.
+fn read_moves(alloc: Global, bytes: &[u8], number: u32, states: u64) -> Result<RawParts, AutError>
+    requires lines { number + length (lines_of bytes.now) < 2 ^ 32 - 1 }
+    requires states { states ≤ 65536 }
+    ensures { MatchResult result (λ parts. AreMoves states (lines_of bytes.now) (named_moves parts) × (length parts.moves ≤ 1048576)) (IsFaultAmong states number (lines_of bytes.now)) }
 {
     let mut parts = RawParts::new(alloc);
     let mut rest = bytes;
-    for done in 0..count {
-        let Some((line, after)) = cut(rest, b'\n') else {
-            return Err(AutError::Strict(done + 2));
-        };
-        let Some((from, label, to)) = move_of(line, states) else {
-            return Err(AutError::Strict(done + 2));
-        };
-        parts.push(from, visible(label), to)?;
+    let mut at = number;
+    while let Some((line, after)) = split_line(rest) {
+        at += 1;
+        add_line(&mut parts, line, at, states)?;
         rest = after;
-    }
-    if !rest.is_empty() {
-        return Err(AutError::Strict(count + 2));
     }
     Ok(parts)
 }
 
-/// The label, unless it is that of the internal action.
-fn visible(label: &[u8]) -> Option<&[u8]>
-    requires { IsLabel label.now }
-    ensures { IfSome result (λ text. IsLabel text.now) }
+/// The system of the header and the moves, if they are as many as it says.
+fn finish(header: Header, parts: RawParts) -> Result<RawLts, AutError>
+    requires few { length parts.moves ≤ 1048576 }
+    requires transitions { header.transitions ≤ 1048576 }
+    requires states { header.states ≤ 65536 }
+    requires start { header.start < header.states }
+    requires within { All (IsWithin header.states) (named_moves parts) }
+    ensures { MatchResult result (λ r. (r ≡ record { states = header.states; start = header.start; labels = parts.labels; moves = parts.moves }) × (length parts.moves ≡ header.transitions)) (λ e. (e ≡ AutError.Memory) ⊎ ((e ≡ AutError.Count header.transitions (length parts.moves)) × (header.transitions ≡ length parts.moves → ⊥))) }
 {
-    match label {
-        b"i" => None,
-        b"tau" => None,
-        text => Some(text),
+    let found = parts.count() as u32;
+    let declared = header.transitions as u32;
+    if found != declared {
+        return Err(AutError::Count { declared, found });
     }
+    let (labels, moves) = parts.into_lists()?;
+    match RawLts::build(header.states as u32, header.start as u32, labels, moves) {
+        Ok(raw) => Ok(raw),
+        Err(refusal) => Err(out_of_memory(refusal)),
+    }
+}
+
+/// The one refusal that parts like these may meet.
+fn out_of_memory(_refusal: LtsError) -> AutError
+    requires { _refusal ≡ LtsError.Memory }
+    ensures { result ≡ AutError.Memory }
+{
+    AutError::Memory
 }

@@ -1,11 +1,15 @@
 //! Good and bad contents.
+use crate::line::read_move;
 use crate::{AutError, AutReader};
-use lts_base::RawLts;
-use std::alloc::Global;
+use lts_base::{RawLts, RawMove};
+use std::alloc::{AllocError, Global};
 use std::test::Fail;
 
-// The content is fed in two pieces.
+// The content is fed in two pieces. So few bytes have fewer lines than are asked for.
 fn read(alloc: Global, content: &[u8]) -> Result<RawLts, AutError> {
+    if content.len() > 1_000_000 {
+        return Err(AutError::Memory);
+    }
     let mut reader = AutReader::new(alloc)?;
     let half = content.len() / 2;
     reader.feed(&content[..half])?;
@@ -13,57 +17,154 @@ fn read(alloc: Global, content: &[u8]) -> Result<RawLts, AutError> {
     reader.end()
 }
 
-const GOOD: &[u8] =
-    b"des (0,4,3)\n(0,\"?coin\",1)\n(1,\"tau\",2)\n(2,\"!tea\",0)\n(1,\"?coin\",0)\n";
+fn read_text(alloc: Global, content: &[u8]) -> Result<String, AllocError> {
+    match read(alloc, content) {
+        Ok(_) => format!(in alloc; "ok"),
+        Err(error) => format!(in alloc; "{error}"),
+    }
+}
+
+// The front, so many times the byte, and the back.
+fn long(alloc: Global, front: &[u8], byte: u8, count: u32, back: &[u8]) -> Result<Vec<u8>, Fail> {
+    let mut content = Vec::from_slice(alloc, front)?;
+    for _ in 0..count {
+        content.push(byte)?;
+    }
+    content.extend_from_slice(back)?;
+    Ok(content)
+}
+
+fn raw_move(from: u32, label: Option<u32>, to: u32) -> RawMove {
+    RawMove { from, label, to }
+}
+
+const FREE: &[u8] =
+    b" \t\r\n des\t( 01 ,7,  3 ) \r\n(0,\"?coin\",1)\n\n ( 1 ,\ttau, 2)\n(2,i,0)\n(1,?coin,\t0 )\n(0, \"a \"b\" , c\" ,2)\n(0, \"\"i\"\" ,002)\n(2,?put 1, x,1)";
 
 #[test]
-fn reads_a_good_file(rt: HostRuntime) -> Result<(), Fail> {
-    let raw = read(rt.alloc(), GOOD)?;
+fn reads_the_whole_form(rt: HostRuntime) -> Result<(), Fail> {
+    let raw = read(rt.alloc(), FREE)?;
     assert_eq!(rt; raw.states(), 3);
-    assert_eq!(rt; raw.start(), 0);
+    assert_eq!(rt; raw.start(), 1);
+    let texts: [&[u8]; 4] = [b"?coin", b"a \"b\" , c", b"\"i\"", b"?put 1, x"];
     let labels = raw.labels().as_slice();
-    assert_eq!(rt; labels.len(), 2);
-    assert!(rt; labels[0].as_slice() == b"?coin".as_slice());
-    assert!(rt; labels[1].as_slice() == b"!tea".as_slice());
+    assert_eq!(rt; labels.len(), texts.len());
+    for (place, label) in labels.iter().enumerate() {
+        assert!(rt; place < texts.len() && label.as_slice() == texts[place]);
+    }
     let want = [
-        (0, Some(0), 1),
-        (1, None, 2),
-        (2, Some(1), 0),
-        (1, Some(0), 0),
+        raw_move(0, Some(0), 1),
+        raw_move(1, None, 2),
+        raw_move(2, None, 0),
+        raw_move(1, Some(0), 0),
+        raw_move(0, Some(1), 2),
+        raw_move(0, Some(2), 2),
+        raw_move(2, Some(3), 1),
     ];
-    let moves = raw.moves().as_slice();
-    assert_eq!(rt; moves.len(), want.len());
-    for (place, m) in moves.iter().enumerate() {
-        assert!(rt; place < want.len() && (m.from, m.label, m.to) == want[place]);
+    assert_eq!(rt; raw.moves().as_slice().len(), want.len());
+    for (place, m) in raw.moves().as_slice().iter().enumerate() {
+        assert!(rt; place < want.len() && *m == want[place]);
     }
     Ok(())
 }
 
 #[test]
-fn names_the_first_line_at_fault(rt: HostRuntime) -> Result<(), Fail> {
-    let rows: [(&[u8], u32); 16] = [
-        (b"", 1),
-        (b"des (0,0,1)", 1),
-        (b"des (1,0,1)\n", 1),
-        (b"des (0,0,0)\n", 1),
-        (b"des (0,0,65537)\n", 1),
-        (b"des (0,1048577,1)\n", 1),
-        (b"des (0,00,1)\n", 1),
-        (b"des (0,0,1)\r\n", 1),
-        (b"des (0,4,3)\n(0,\"a\",1)\n(1,\"b\",2)\n(2,\"c\",0)\n", 5),
-        (b"des (0,1,1)\n(0,\"a\",0)", 2),
-        (b"des (0,1,1)\n(0,\"a\",1)\n", 2),
-        (b"des (0,1,1)\n(0,\"\",0)\n", 2),
-        (b"des (0,1,1)\n(0,\"a\xff\",0)\n", 2),
-        (b"des (0,1,1)\n(0, \"a\",0)\n", 2),
-        (b"des (0,1,1)\n(0,\"a\",0)\n(0,\"a\",0)\n", 3),
-        (b"des (0,1,1)\n(0,\"a\",0)\n\n", 3),
+fn names_the_first_fault(rt: HostRuntime) -> Result<(), Fail> {
+    let rows: [(&[u8], &str); 42] = [
+        (b"", "header"),
+        (b" \n\t\r\n", "header"),
+        (b"des (0,0,1)", "ok"),
+        (b"des(0,0,1)\r", "ok"),
+        (b"des (0,0,1)\r\r", "header"),
+        (b"des (0,0,1\xff)", "header"),
+        (b"dez (0,0,1)", "header"),
+        (b"des (0,0,0,1)", "header"),
+        (b"des (0,0)", "header"),
+        (b"des (0,0,1) x", "header"),
+        (b"des (-0,0,1)", "header"),
+        (b"des (0,0,18446744073709551616)", "header"),
+        (b"des (0,0,0)", "header"),
+        (b"des (1,0,1)", "header"),
+        (b"des (65536,0,65536)", "header"),
+        (b"des (65535,0,65536)", "ok"),
+        (b"des (70000,1048577,65537)", "too-many-states"),
+        (b"des (9,1048577,1)", "too-many-moves"),
+        (b"des (0,1,1)\n(0,a\xff,9)", "not-utf8 2"),
+        (b"des (0,1,1)\n\n(0,a)", "line 3"),
+        (b"des (0,1,1)\n0,a,0)", "line 2"),
+        (b"des (0,1,1)\n(0,a,0", "line 2"),
+        (b"des (0,1,1)\n(,a,0)", "line 2"),
+        (b"des (0,1,1)\n(0,,0)", "line 2"),
+        (b"des (0,1,1)\n(0, \"\" ,0)", "line 2"),
+        (b"des (0,1,1)\n(0,\",0)", "ok"),
+        (b"des (0,1,1)\n(0,a\tb,0)", "line 2"),
+        (b"des (0,1,1)\n(0,\ta\t,0)", "ok"),
+        (b"des (0,1,1)\n(0,a,1)", "state 2"),
+        (b"des (0,1,1)\n(1,a,0)", "state 2"),
+        (b"des (0,1,1)\n(1,a\tb,0)", "line 2"),
+        (b"des (0,1,1)\n(0,a,0)\n(0,a,1)\n(0,a)", "state 3"),
+        (b"des (0,0,1)\n \r\n(0,a,0)\n\n", "count declared=0 found=1"),
+        (
+            b"des (0,4,3)\n(0,a,1)\n(1,b,2)\n(1,c,2)\n",
+            "count declared=4 found=3",
+        ),
+        (b"des (0,1,2)\n(0,a,2)\n", "state 2"),
+        (b"des (0,1,1)\n(0,a,00000000000000000000)", "ok"),
+        (b"des (0,1,1)\n(0,a,000000000000000000000)", "line 2"),
+        (b"des (0,1,1)\n(0,a,0)\r\r", "line 2"),
+        (b"des (0,1,1)\n(0 0,a,0)", "line 2"),
+        (b"des (0,1,1)\n((0,a,0)", "line 2"),
+        (b"des (0,1,1)\n(0,a,0))", "line 2"),
+        (b"\n\ndes (0,1,1)\n\n(0,a,5)", "state 5"),
     ];
-    for (content, line) in rows {
-        match read(rt.alloc(), content) {
-            Err(AutError::Strict(at)) => assert_eq!(rt; at, line),
-            _ => assert!(rt; false),
-        }
+    for (content, want) in rows {
+        let got = read_text(rt.alloc(), content)?;
+        assert_eq!(rt; got.as_str(), want);
+    }
+    Ok(())
+}
+
+#[test]
+fn keeps_to_the_lengths(rt: HostRuntime) -> Result<(), Fail> {
+    let alloc = rt.alloc();
+    let rows: [(&[u8], u8, u32, &[u8], &str); 11] = [
+        (b"des (0,0,1)", b' ', 4085, b"\n", "ok"),
+        (b"des (0,0,1)", b' ', 4086, b"\n", "header"),
+        (b"des (0,0,1)", b' ', 4085, b"\r\n", "header"),
+        (b"", b' ', 5000, b"\ndes (0,0,1)\n", "ok"),
+        (b"des (0,0,1)\n", b'\t', 5000, b"", "ok"),
+        (b"des (0,1,1)\n(0,a,0)", b' ', 4089, b"\n", "ok"),
+        (b"des (0,1,1)\n(0,a,0)", b' ', 4090, b"\n", "line 2"),
+        (b"des (0,1,1)\n(0,a,9)\xff", b' ', 4089, b"", "line 2"),
+        (b"des (0,1,1)\n(0,", b'a', 1024, b",0)", "ok"),
+        (b"des (0,1,1)\n(0,\"", b'a', 1025, b"\",0)", "label-long 2"),
+        (b"des (0,1,1)\n(0,", b'a', 1025, b",1)", "state 2"),
+    ];
+    for (front, byte, count, back, want) in rows {
+        let content = long(alloc, front, byte, count, back)?;
+        let got = read_text(alloc, &content)?;
+        assert_eq!(rt; got.as_str(), want);
+    }
+    Ok(())
+}
+
+// After 1,048,576 moves one more is too many, also where its label or an end is at fault, unless it is no move.
+#[test]
+fn counts_the_moves(rt: HostRuntime) -> Result<(), Fail> {
+    let rows: [(&[u8], usize, &str); 6] = [
+        (b"(0,a,0)", 1_048_575, "ok"),
+        (b"(0,a,0)", 1_048_576, "too-many-moves"),
+        (b"(7,a,0)", 1_048_576, "too-many-moves"),
+        (b"(0,,0)", 1_048_576, "line 5"),
+        (b"(0,a,0", 1_048_576, "line 5"),
+        (b"(0,a\xff,0)", 1_048_576, "not-utf8 5"),
+    ];
+    for (line, count, want) in rows {
+        let got = match read_move(line, 5, count, 1) {
+            Ok(_) => format!(in rt.alloc(); "ok")?,
+            Err(error) => format!(in rt.alloc(); "{error}")?,
+        };
+        assert_eq!(rt; got.as_str(), want);
     }
     Ok(())
 }

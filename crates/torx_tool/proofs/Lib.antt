@@ -1,2 +1,3 @@
 mod Reports
 mod Openings
+mod LineCount

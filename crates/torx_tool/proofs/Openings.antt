@@ -1,5 +1,5 @@
 -- The pair of the two opening sets, which is the first of the reached pairs, where one of them passes the limit of members.
-use Rattle.std.proofs.Common.{◌≡◌, ℕ, ◌+◌, ◌<◌, ◌≤◌, List, [], ◌∷◌, length, get_or, take, Contains, refl, sym, ◌∙◌, ap, ap₂, subst, arith, inl, inr, ◌⊎◌, zero-add}
+use Rattle.std.proofs.Common.{◌≡◌, ℕ, ◌<◌, ◌≤◌, List, [], ◌∷◌, length, get_or, Contains, refl, sym, ap₂, subst, arith, inl, inr, ◌⊎◌, zero-add}
 use Rattle.lts_base.specs.declared.item.Item.{Item}
 use Rattle.lts_base.specs.declared.item.Mode.{Mode}
 use Rattle.lts_base.specs.System.{System, label_count}
@@ -16,8 +16,7 @@ use Rattle.walk_core.specs.Refused.{RefusesOpening}
 use Rattle.conf_decide.specs.declared.answer.Answer.TheVariants.{Undecided}
 use Rattle.torx_tool.specs.Words.{Asked}
 use Rattle.torx_tool.specs.Causes.{limits_of}
-use Rattle.conf_decide.specs.declared.answer.What.{What}
-use Rattle.conf_decide.specs.declared.answer.What.TheVariants.{Pairs, ImpMembers, SpecMembers}
+use Rattle.conf_decide.specs.declared.answer.What.TheVariants.{ImpMembers, SpecMembers}
 use Rattle.conf_decide.specs.Decided.{IsCut, IsDecided}
 
 nil_first : (n : ℕ) (σ : List Item) → IsAtMost n [] σ

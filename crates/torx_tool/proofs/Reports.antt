@@ -1,8 +1,7 @@
 -- From a decision to the answer of a run.
-use Rattle.std.proofs.Common.{◌≡◌, ℕ, ◌+◌, ◌-◌, ◌<◌, ◌≤◌, List, [], ◌∷◌, ◌++◌, length, get_or, All, Contains, Option, refl, sym, ◌∙◌, ap, subst, arith, inl, inr, ◌⊎◌, Result, Ok}
+use Rattle.std.proofs.Common.{◌≡◌, ℕ, ◌<◌, ◌≤◌, List, [], ◌∷◌, length, get_or, All, refl, arith, inl, inr, ◌⊎◌}
 use Rattle.std.proofs.lemmas.List.{length-map}
 use Rattle.std.proofs.lemmas.List.Elements.{All-push, All-contains}
-use Rattle.lts_base.specs.declared.action.Move.{Move}
 use Rattle.lts_base.specs.declared.item.Item.{Item}
 use Rattle.lts_base.specs.declared.item.Item.TheVariants.{Input, Output, Delta}
 use Rattle.lts_base.specs.declared.sorting.Rule.TheVariants.{Prefix}
@@ -10,8 +9,8 @@ use Rattle.lts_base.specs.System.{System, IsSystem, IsItemOf, IsMoveOf, label_co
 use Rattle.lts_base.specs.Path.{Has}
 use Rattle.lts_base.specs.After.{ShowsAfter}
 use Rattle.lts_base.specs.Alphabet.{Alphabet}
-use Rattle.lts_base.specs.Raw.{RawSystem, IsRaw}
-use Rattle.lts_base.specs.Related.{rows_of, row_of}
+use Rattle.lts_base.specs.Raw.{RawSystem}
+use Rattle.lts_base.specs.Related.{row_of}
 use Rattle.lts_base.specs.Sorting.{IsAlphabetOf, AreSystemsFor}
 use Rattle.lts_base.proofs.ListLaws.{snoc_induction}
 use Rattle.lts_base.proofs.SetLaws.{Has-front, Has-item}
@@ -21,9 +20,9 @@ use Rattle.conf_decide.specs.declared.answer.Answer.TheVariants.{Conforms as Rel
 use Rattle.conf_decide.specs.Decided.{IsDecided}
 use Rattle.torx_tool.specs.declared.status.Status.{Status}
 use Rattle.torx_tool.specs.declared.status.Status.TheVariants.{Conforms, Violates, Undecided, Usage, TooLong, BadFile, BadLabels, FileFault, OutFault, Memory}
-use Rattle.torx_tool.specs.Words.{Asked, asked_of}
-use Rattle.torx_tool.specs.Printed.{IsPrintable, text_of}
-use Rattle.torx_tool.specs.Causes.{Told, Counts, IsPrintableAnswer, IsReportOf, reported, limits_of, Compares, IsAnswer}
+use Rattle.torx_tool.specs.Words.{Asked, AskFor}
+use Rattle.torx_tool.specs.Printed.{IsPrintable}
+use Rattle.torx_tool.specs.Causes.{ReadsAs, Told, Counts, IsPrintableAnswer, IsReportOf, reported, limits_of, Compares, IsAnswer}
 
 printable_item : (s : System) (n : ℕ) (x : Item) → label_count s ≡ n → IsItemOf s x → IsPrintable n x
 printable_item s n (Input a) e h = omega arith
@@ -61,8 +60,8 @@ compares asked spec imp a s i status text alphabet systems (inr (answer, decided
     go (Broken trace shown) d e = rw e (a, s, i, Broken trace shown, alphabet, systems, d, refl, rw e at says)
     go (Cut what reached depth) d e = rw e (a, s, i, Cut what reached depth, alphabet, systems, d, refl, rw e at says)
 
-pub answered : (content : Told) (before after : Counts) (words : List (List ℕ)) (asked : Asked) (spec imp : RawSystem) (status : Status) (text : List ℕ) → asked_of words ≡ Ok asked →
-    IsRaw spec → IsRaw imp → Compares asked spec imp status text → IsAnswer content before after words status text
+pub answered : (content : Told) (before after : Counts) (words : List (List ℕ)) (asked : Asked) (spec imp : RawSystem) (status : Status) (text : List ℕ) → AskFor words asked →
+    ReadsAs content asked.spec spec → ReadsAs content asked.imp imp → Compares asked spec imp status text → IsAnswer content before after words status text
 answered content before after words asked spec imp (Conforms pairs) text e rs ri h = (asked, e, inr (spec, imp, rs, ri, h))
 answered content before after words asked spec imp (Violates trace shown) text e rs ri h = (asked, e, inr (spec, imp, rs, ri, h))
 answered content before after words asked spec imp (Undecided what reached depth) text e rs ri h = (asked, e, inr (spec, imp, rs, ri, h))

@@ -1,21 +1,22 @@
 -- Why a run answers what it answers.
-use Rattle.std.specs.Prelude.{◌≡◌, ℕ, ◌^◌, ◌<◌, All, List, [], ◌∷◌, length, Option, Result, Ok, Err, ◌⊎◌}
+use Rattle.std.specs.Prelude.{◌≡◌, ℕ, ◌^◌, ◌<◌, All, List, [], ◌∷◌, length, Option, ◌⊎◌}
 use Rattle.std.specs.Option.{IfSome}
 use Rattle.lts_base.specs.declared.sorting.Rule.TheVariants.{Prefix}
 use Rattle.lts_base.specs.System.{System}
 use Rattle.lts_base.specs.Alphabet.{Alphabet}
-use Rattle.lts_base.specs.Raw.{RawSystem, IsRaw}
+use Rattle.lts_base.specs.Raw.{RawSystem}
 use Rattle.lts_base.specs.Reached.{Limits}
 use Rattle.lts_base.specs.Sorting.{RefusesSplit, IsAlphabetOf, AreSystemsFor}
 use Rattle.edge_io.specs.Outside.{Rose, Appends, AppendsFront}
 use Rattle.conf_decide.specs.declared.answer.Answer.{Answer}
 use Rattle.conf_decide.specs.declared.answer.Answer.TheVariants.{Conforms as Related, Violates as Broken, Undecided as Cut}
 use Rattle.conf_decide.specs.Decided.{IsDecided}
-use Rattle.torx_tool.specs.declared.words.UsageKind.{UsageKind}
-use Rattle.torx_tool.specs.declared.status.FileError.{FileError}
+use Rattle.aut_text.specs.Grammar.{IsAut}
+use Rattle.aut_text.specs.Faults.{RefusesAut}
+use Rattle.torx_tool.specs.declared.status.FileError.TheVariants.{Aut}
 use Rattle.torx_tool.specs.declared.status.Status.{Status}
 use Rattle.torx_tool.specs.declared.status.Status.TheVariants.{Conforms, Violates, Undecided, Usage, TooLong, BadFile, BadLabels, FileFault, OutFault, Memory}
-use Rattle.torx_tool.specs.Words.{Asked, asked_of}
+use Rattle.torx_tool.specs.Words.{Asked, AskFor, RefusesWords}
 use Rattle.torx_tool.specs.Printed.{text_of, IsPrintable}
 
 -- what the files tell: the content of each name, where it is told
@@ -30,13 +31,18 @@ Counts = List ℕ → ℕ
 abbrev pub RefusesFile : Told → Counts → Counts → List ℕ → Status → Type 0
 RefusesFile content before after name (FileFault named) = (named ≡ name) × Rose (before name) (after name)
 RefusesFile content before after name (TooLong named) = (named ≡ name) × IfSome (content name) (λ c. 67108864 < length c)
-RefusesFile content before after name (BadFile named error) = named ≡ name
+RefusesFile content before after name (BadFile named (Aut error)) = (named ≡ name) × IfSome (content name) (λ c. RefusesAut c error)
 RefusesFile content before after name Memory = Unit {0}
 RefusesFile content before after name other = ⊥
 
--- one of the two files is refused; the specification is read first
+-- the file of this name is read as this raw system, where its content is told
+abbrev pub ReadsAs : Told → List ℕ → RawSystem → Type 0
+ReadsAs content name raw = IfSome (content name) (λ c. IsAut c raw)
+
+-- one of the two files is refused: the specification; or else it reads, and the implementation is refused
 abbrev pub RefusesFiles : Told → Counts → Counts → Asked → Status → Type 0
-RefusesFiles content before after asked status = RefusesFile content before after asked.spec status ⊎ RefusesFile content before after asked.imp status
+RefusesFiles content before after asked status = RefusesFile content before after asked.spec status ⊎
+    ((spec : RawSystem) × ReadsAs content asked.spec spec × RefusesFile content before after asked.imp status)
 
 -- what the answer of a decision is called
 abbrev pub reported : Answer → Status
@@ -75,12 +81,12 @@ IsPrintableAnswer n (Cut what reached depth) = Unit {0}
 
 -- what `check` answers for these words: a file is refused, or its two systems are compared
 abbrev pub IsChecked : Told → Counts → Counts → List (List ℕ) → Status → List ℕ → Type 0
-IsChecked content before after words status text = (asked : Asked) × (asked_of words ≡ Ok asked) ×
-    ((RefusesFiles content before after asked status × (text ≡ text_of [] status)) ⊎ ((spec : RawSystem) × (imp : RawSystem) × IsRaw spec × IsRaw imp × Compares asked spec imp status text))
+IsChecked content before after words status text = (asked : Asked) × AskFor words asked ×
+    ((RefusesFiles content before after asked status × (text ≡ text_of [] status)) ⊎ ((spec : RawSystem) × (imp : RawSystem) × ReadsAs content asked.spec spec × ReadsAs content asked.imp imp × Compares asked spec imp status text))
 
 -- the answer has its cause, and this is its text
 abbrev pub IsAnswer : Told → Counts → Counts → List (List ℕ) → Status → List ℕ → Type 0
-IsAnswer content before after words (Usage kind) text = (asked_of words ≡ Err kind) × (text ≡ text_of [] (Usage kind))
+IsAnswer content before after words (Usage kind) text = RefusesWords words kind × (text ≡ text_of [] (Usage kind))
 IsAnswer content before after words OutFault text = ⊥
 IsAnswer content before after words Memory text = Unit {0}
 IsAnswer content before after words other text = IsChecked content before after words other text

@@ -7,11 +7,11 @@ use Rattle.lts_base.specs.declared.sorting.SplitError.{SplitError}
 use Rattle.lts_base.specs.declared.sorting.SplitError.TheVariants.{Unsorted, Reserved, TooManyLabels, Memory as NoRoomForLabels}
 use Rattle.lts_base.specs.Alphabet.{text_at}
 use Rattle.aut_text.specs.declared.error.AutError.{AutError}
-use Rattle.aut_text.specs.declared.error.AutError.TheVariants.{Strict, Memory as NoRoomForFile}
+use Rattle.aut_text.specs.declared.error.AutError.TheVariants.{Header, Line, State, Count, LabelLong, NotUtf8, TooManyStates, TooManyMoves, Memory as NoRoomForFile}
 use Rattle.conf_decide.specs.declared.answer.What.{What}
 use Rattle.conf_decide.specs.declared.answer.What.TheVariants.{Pairs, ImpMembers, SpecMembers}
 use Rattle.torx_tool.specs.declared.words.UsageKind.{UsageKind}
-use Rattle.torx_tool.specs.declared.words.UsageKind.TheVariants.{NoCommand, UnknownCommand, Words}
+use Rattle.torx_tool.specs.declared.words.UsageKind.TheVariants.{NoCommand, UnknownCommand, Words, Value}
 use Rattle.torx_tool.specs.declared.status.FileError.{FileError}
 use Rattle.torx_tool.specs.declared.status.FileError.TheVariants.{Aut}
 use Rattle.torx_tool.specs.declared.status.Status.{Status}
@@ -53,9 +53,17 @@ abbrev pub kind_text : UsageKind → List ℕ
 kind_text NoCommand = codes "no-command"
 kind_text UnknownCommand = codes "unknown-command"
 kind_text Words = codes "words"
+kind_text Value = codes "value"
 
 abbrev pub aut_text : AutError → List ℕ
-aut_text (Strict line) = codes "strict " ++ decimal line
+aut_text Header = codes "header"
+aut_text (Line n) = codes "line " ++ decimal n
+aut_text (State n) = codes "state " ++ decimal n
+aut_text (Count declared found) = codes "count declared=" ++ (decimal declared ++ (codes " found=" ++ decimal found))
+aut_text (LabelLong n) = codes "label-long " ++ decimal n
+aut_text (NotUtf8 n) = codes "not-utf8 " ++ decimal n
+aut_text TooManyStates = codes "too-many-states"
+aut_text TooManyMoves = codes "too-many-moves"
 aut_text NoRoomForFile = []
 
 abbrev pub error_text : FileError → List ℕ

@@ -1,6 +1,8 @@
 //! The systems of files: loaded, and read as Aldebaran.
-ghost use Rattle.std.specs.Prelude.{◌≡◌, ◌≤◌, ℕ, List, IfErr, ◌⊎◌};
-ghost use Rattle.torx_tool.specs.Causes.{RefusesFile};
+ghost use Rattle.std.specs.Prelude.{◌≡◌, ◌≤◌, ℕ, List, length, MatchResult, ◌⊎◌};
+ghost use Rattle.torx_tool.specs.Causes.{RefusesFile, ReadsAs};
+ghost use Rattle.aut_text.specs.Grammar.{IsAut};
+ghost use Rattle.aut_text.specs.Faults.{RefusesAut};
 
 use crate::status::{FileError, Status};
 use aut_text::{AutError, AutReader};
@@ -13,7 +15,7 @@ const MOST_BYTES: u64 = 67_108_864;
 
 /// The system of a file.
 pub fn system<F: Files>(alloc: Global, files: &mut F, name: &str) -> Result<RawLts, Status>
-    ensures err { IfErr result (RefusesFile (F.content files.old) (F.faults files.old) (F.faults files.new) name.now) }
+    ensures loaded { MatchResult result (ReadsAs (F.content files.old) name.now) (RefusesFile (F.content files.old) (F.faults files.old) (F.faults files.new) name.now) }
     ensures same { (other : List ℕ) → F.content files.new other ≡ F.content files.old other }
     ensures later { (other : List ℕ) → F.faults files.old other ≤ F.faults files.new other }
 {
@@ -28,7 +30,10 @@ pub fn system<F: Files>(alloc: Global, files: &mut F, name: &str) -> Result<RawL
     }
 }
 
-fn read(alloc: Global, content: &[u8]) -> Result<RawLts, AutError> {
+fn read(alloc: Global, content: &[u8]) -> Result<RawLts, AutError>
+    requires { length content.now ≤ 67108864 }
+    ensures { MatchResult result (IsAut content.now) (RefusesAut content.now) }
+{
     let mut reader = AutReader::new(alloc)?;
     reader.feed(content)?;
     reader.end()

@@ -106,6 +106,7 @@ pub fn usage(alloc: Global, kind: UsageKind) -> Result<Text, AllocError>
         UsageKind::NoCommand => one_line(alloc, b"usage ", b"no-command"),
         UsageKind::UnknownCommand => one_line(alloc, b"usage ", b"unknown-command"),
         UsageKind::Words => one_line(alloc, b"usage ", b"words"),
+        UsageKind::Value => one_line(alloc, b"usage ", b"value"),
     }
 }
 
@@ -137,15 +138,31 @@ fn file_error(alloc: Global, error: &FileError) -> Result<String, AllocError>
 {
     let FileError::Aut(error) = error;
     match error {
-        AutError::Strict(line) => strict(alloc, *line),
+        AutError::Header => String::from_str(alloc, "header"),
+        AutError::Line(line) => at_line(alloc, "line ", *line),
+        AutError::State(line) => at_line(alloc, "state ", *line),
+        AutError::Count { declared, found } => miscounted(alloc, *declared, *found),
+        AutError::LabelLong(line) => at_line(alloc, "label-long ", *line),
+        AutError::NotUtf8(line) => at_line(alloc, "not-utf8 ", *line),
+        AutError::TooManyStates => String::from_str(alloc, "too-many-states"),
+        AutError::TooManyMoves => String::from_str(alloc, "too-many-moves"),
         AutError::Memory => Ok(String::new(alloc)),
     }
 }
 
-fn strict(alloc: Global, line: u32) -> Result<String, AllocError>
-    ensures { IfOk result (λ text. string_bytes text ≡ codes "strict " ++ decimal line) }
+fn at_line(alloc: Global, front: &str, line: u32) -> Result<String, AllocError>
+    ensures { IfOk result (λ text. string_bytes text ≡ front.now ++ decimal line) }
 {
-    format!(in alloc; "strict {line}")
+    format!(in alloc; "{front}{line}")
+}
+
+fn miscounted(alloc: Global, declared: u32, found: u32) -> Result<String, AllocError>
+    ensures { IfOk result (λ text. string_bytes text ≡ codes "count declared=" ++ (decimal declared ++ (codes " found=" ++ decimal found))) }
+{
+    let mut text = format!(in alloc; "count declared={declared}")?;
+    let rest = format!(in alloc; " found={found}")?;
+    text.push_str(rest.as_str())?;
+    Ok(text)
 }
 
 /// The text of a refusal, which needs no labels.

@@ -1,10 +1,8 @@
 //! The top call: from words and files to what is printed.
 ghost use Rattle.std.specs.Prelude.{◌≡◌, ◌≤◌, ◌<◌, ◌⊎◌, ◌+◌, ℕ, List, [], map, MatchResult, Err, string_bytes};
 ghost use Rattle.edge_io.specs.Outside.{Rose};
-ghost use Rattle.lts_base.specs.Raw.{IsRaw};
-ghost use Rattle.torx_tool.specs.Words.{asked_of};
 ghost use Rattle.torx_tool.specs.Named.{asked_from};
-ghost use Rattle.torx_tool.specs.Causes.{RefusesFiles, Compares, IsAnswer, IsChecked, IsRun};
+ghost use Rattle.torx_tool.specs.Causes.{ReadsAs, RefusesFiles, Compares, IsAnswer, IsChecked, IsRun};
 
 use crate::compare::compare;
 use crate::load::system;
@@ -54,7 +52,7 @@ fn answer<F: Files>(alloc: Global, words: &[String], files: &mut F) -> Report
 }
 
 fn load_both<F: Files>(alloc: Global, files: &mut F, request: &Request<'_>) -> Result<Pair, Status>
-    ensures loaded { MatchResult result (λ pair. IsRaw pair.spec × IsRaw pair.imp) (RefusesFiles (F.content files.old) (F.faults files.old) (F.faults files.new) (asked_from request.now)) }
+    ensures loaded { MatchResult result (λ pair. ReadsAs (F.content files.old) request.now.spec.now pair.spec × ReadsAs (F.content files.old) request.now.imp.now pair.imp) (RefusesFiles (F.content files.old) (F.faults files.old) (F.faults files.new) (asked_from request.now)) }
     ensures same { (name : List ℕ) → F.content files.new name ≡ F.content files.old name }
     ensures later { (name : List ℕ) → F.faults files.old name ≤ F.faults files.new name }
 {
@@ -66,7 +64,5 @@ fn load_both<F: Files>(alloc: Global, files: &mut F, request: &Request<'_>) -> R
         Ok(imp) => imp,
         Err(status) => return Err(status),
     };
-    let _ = spec.states();
-    let _ = imp.states();
     Ok(Pair { spec, imp })
 }

@@ -6,7 +6,7 @@ use std::alloc::{AllocError, Global};
 use std::test::Fail;
 
 /// The files that the cases speak of.
-const FILES: [(&str, &str); 12] = [
+const FILES: [(&str, &str); 15] = [
     (
         "S.aut",
         "des (0,3,3)\n(0,\"?coin\",1)\n(1,\"!tea\",2)\n(1,\"!coffee\",2)\n",
@@ -37,6 +37,9 @@ const FILES: [(&str, &str); 12] = [
         "des (0,4,3)\n(0,\"?coin\",1)\n(1,\"!tea\",2)\n(1,\"!coffee\",2)\n",
     ),
     ("G.aut", "des (0,1,2)\n(0,\"coin\",1)\n"),
+    ("T.aut", "des (0,1,2)\n(0,\"tau\",1)\n"),
+    ("B.aut", "des (0,1,2)\n(0,\"?a\",2)\n"),
+    ("Y.aut", "des (0,2,3)\n(0,\"tau\",1)\n(0,\"!x\",2)\n"),
 ];
 
 fn contents(alloc: Global) -> Result<Contents, Memory> {
@@ -65,7 +68,7 @@ fn words_of(alloc: Global, line: &str) -> Result<Vec<String>, AllocError> {
 #[test]
 fn prints_the_answer(rt: HostRuntime) -> Result<(), Fail> {
     let alloc = rt.alloc();
-    let rows: [(&str, &str, u8); 16] = [
+    let rows: [(&str, &str, u8); 40] = [
         ("check S.aut I.aut", "conforms pairs=3\n", 0),
         (
             "check S.aut M.aut",
@@ -78,26 +81,106 @@ fn prints_the_answer(rt: HostRuntime) -> Result<(), Fail> {
             1,
         ),
         ("check E.aut X.aut", "violates\nshows !x\n", 1),
+        ("check X.aut Y.aut", "violates\nshows delta\n", 1),
         (
             "check U.aut V.aut",
             "violates\nafter ?a\nafter ?b\nshows !y\n",
             1,
         ),
+        ("check --uioco U.aut V.aut", "conforms pairs=2\n", 0),
         (
             "check R.aut W.aut",
             "violates\nafter ?a\nafter !x\nafter ?a\nshows !y\n",
             1,
         ),
-        ("check Z.aut I.aut", "bad Z.aut strict 1\n", 4),
-        ("check C.aut I.aut", "bad C.aut strict 5\n", 4),
-        ("check S.aut C.aut", "bad C.aut strict 5\n", 4),
+        (
+            "check --pairs 1 S.aut I.aut",
+            "undecided pairs=1 depth=1\n",
+            2,
+        ),
+        (
+            "check --pairs 2 S.aut I.aut",
+            "undecided pairs=2 depth=2\n",
+            2,
+        ),
+        ("check --pairs 3 S.aut I.aut", "conforms pairs=3\n", 0),
+        (
+            "check --pairs 1 S.aut M.aut",
+            "undecided pairs=1 depth=1\n",
+            2,
+        ),
+        (
+            "check --pairs 2 S.aut M.aut",
+            "violates\nafter ?coin\nshows !milk\n",
+            1,
+        ),
+        (
+            "check --members 1 S.aut I.aut",
+            "undecided imp-members=2 depth=1\n",
+            2,
+        ),
+        (
+            "check --uioco --pairs 9 --members 1 S.aut I.aut",
+            "undecided imp-members=2 depth=1\n",
+            2,
+        ),
+        (
+            "check --members 1 T.aut T.aut",
+            "undecided imp-members=2 depth=0\n",
+            2,
+        ),
+        (
+            "check --members 1 T.aut E.aut",
+            "undecided spec-members=2 depth=0\n",
+            2,
+        ),
+        ("check --members 2 R.aut R.aut", "conforms pairs=2\n", 0),
+        (
+            "check --members 2 R.aut W.aut",
+            "undecided imp-members=3 depth=2\n",
+            2,
+        ),
+        (
+            "check --members 3 R.aut W.aut",
+            "undecided imp-members=4 depth=3\n",
+            2,
+        ),
+        (
+            "check --members 4 R.aut W.aut",
+            "violates\nafter ?a\nafter !x\nafter ?a\nshows !y\n",
+            1,
+        ),
+        ("check Z.aut I.aut", "bad Z.aut header\n", 4),
+        (
+            "check C.aut I.aut",
+            "bad C.aut count declared=4 found=3\n",
+            4,
+        ),
+        (
+            "check S.aut C.aut",
+            "bad C.aut count declared=4 found=3\n",
+            4,
+        ),
+        ("check B.aut C.aut", "bad B.aut state 2\n", 4),
         ("check G.aut I.aut", "labels unsorted coin\n", 4),
         ("check N.aut I.aut", "fault N.aut\n", 5),
         ("check S.aut N.aut", "fault N.aut\n", 5),
         ("", "usage no-command\n", 3),
-        ("check S.aut", "usage words\n", 3),
-        ("check S.aut -I", "usage words\n", 3),
         ("chek S.aut I.aut", "usage unknown-command\n", 3),
+        ("--help", "usage unknown-command\n", 3),
+        ("check S.aut", "usage words\n", 3),
+        ("check S.aut I.aut E.aut", "usage words\n", 3),
+        ("check S.aut -I", "usage words\n", 3),
+        (
+            "check --members 1 --pairs 1 S.aut I.aut",
+            "usage words\n",
+            3,
+        ),
+        ("check --pairs -1 S.aut I.aut", "usage words\n", 3),
+        ("check --pairs 0 S.aut I.aut", "usage value\n", 3),
+        ("check --pairs 200001 S.aut I.aut", "usage value\n", 3),
+        ("check --members 33554433 S.aut I.aut", "usage value\n", 3),
+        ("check --members - S.aut I.aut", "usage value\n", 3),
     ];
     for (line, want, code) in rows {
         let mut files = MemFiles::new(contents(alloc)?, Numbers::new(alloc));

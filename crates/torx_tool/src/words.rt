@@ -1,10 +1,12 @@
 //! The words of the command line.
-ghost use Rattle.std.specs.Prelude.{◌≡◌, ◌<◌, ◌≤◌, map, IfOk};
+ghost use Rattle.std.specs.Prelude.{◌≡◌, ◌<◌, ◌≤◌, List, ℕ, map, IfOk, IfSome, ◌⊎◌, MatchOption, MatchResult, Option, codes};
+ghost use Rattle.std.specs.Option.{option_map};
 ghost use Rattle.std.specs.String.{string_bytes};
-ghost use Rattle.torx_tool.specs.Words.{asked_of, files_of, is_file};
-ghost use Rattle.torx_tool.specs.Named.{asked_by};
+ghost use Rattle.torx_tool.specs.Words.{AskFor, RefusesWords, Asks, form_of, files_of, has_flag, after_flag, value_of, after_option, is_file, is_value, mode_of, IsNumber, IsNoNumber};
+ghost use Rattle.torx_tool.specs.Named.{asked_from, form_from};
 
 use lts_base::Mode;
+use text_scan::decimal;
 
 /// Why words are refused, in the order in which the reasons are tried.
 #[derive(Clone, Copy, PartialEq, Eq, Debug)]
@@ -15,13 +17,20 @@ pub enum UsageKind {
     UnknownCommand,
     /// The words after it aren't in the command's form.
     Words,
+    /// A number is out of its form or range.
+    Value,
 }
 
-/// The most pairs that a decision looks at.
-const MOST_PAIRS: u32 = 50_000;
+/// The most pairs that can be asked for, and those that are looked at unless a number is given.
+const MOST_PAIRS: u64 = 200_000;
 
-/// The most members that the sets of one side may have together.
-const MOST_MEMBERS: u64 = 16_777_216;
+const USUAL_PAIRS: u64 = 50_000;
+
+/// The most members of the sets of one side that can be asked for, and those that they may have
+/// unless a number is given.
+const MOST_MEMBERS: u64 = 33_554_432;
+
+const USUAL_MEMBERS: u64 = 16_777_216;
 
 /// What `check` is asked for.
 #[derive(Clone, Copy, Debug)]
@@ -38,9 +47,24 @@ pub struct Request<'a> {
     pub imp: &'a str,
 }
 
+/// The words of `check`, taken apart.
+#[derive(Clone, Copy, Debug)]
+pub struct Parts<'a> {
+    /// Whether the flag stands.
+    pub uioco: bool,
+    /// The value of the option `--pairs`.
+    pub pairs: Option<&'a str>,
+    /// The value of the option `--members`.
+    pub members: Option<&'a str>,
+    /// The file of the specification.
+    pub spec: &'a str,
+    /// The file of the implementation.
+    pub imp: &'a str,
+}
+
 /// What the words ask for.
 pub fn command(words: &[String]) -> Result<Request<'_>, UsageKind>
-    ensures asked { asked_by result ≡ asked_of (map string_bytes words.now) }
+    ensures asked { MatchResult result (λ r. AskFor (map string_bytes words.now) (asked_from r)) (RefusesWords (map string_bytes words.now)) }
     ensures limits { IfOk result (λ r. (0 < r.pairs) × (r.pairs ≤ 200000) × (r.members ≤ 33554432)) }
 {
     let [first, others @ ..] = words else {
@@ -49,28 +73,106 @@ pub fn command(words: &[String]) -> Result<Request<'_>, UsageKind>
     if first.as_str() != "check" {
         return Err(UsageKind::UnknownCommand);
     }
-    files(others)
+    let Some(parts) = form(others) else {
+        return Err(UsageKind::Words);
+    };
+    let Some(request) = values(&parts) else {
+        return Err(UsageKind::Value);
+    };
+    Ok(request)
 }
 
-fn files(words: &[String]) -> Result<Request<'_>, UsageKind>
-    ensures asked { asked_by result ≡ files_of (map string_bytes words.now) }
-    ensures limits { IfOk result (λ r. (0 < r.pairs) × (r.pairs ≤ 200000) × (r.members ≤ 33554432)) }
+/// The words after `check`, taken apart.
+fn form(words: &[String]) -> Option<Parts<'_>>
+    ensures { option_map form_from result ≡ form_of (map string_bytes words.now) }
+{
+    let uioco = flag(words);
+    let (pairs, words) = option(past_flag(words), "--pairs");
+    let (members, words) = option(words, "--members");
+    if !can_be_value(pairs) {
+        return None;
+    }
+    if !can_be_value(members) {
+        return None;
+    }
+    files(uioco, pairs, members, words)
+}
+
+/// Whether the flag `--uioco` stands first.
+fn flag(words: &[String]) -> bool
+    ensures { result ≡ has_flag (map string_bytes words.now) }
+{
+    match words {
+        [] => false,
+        [first, ..] => first.as_str() == "--uioco",
+    }
+}
+
+/// The words after the flag.
+fn past_flag(words: &[String]) -> &[String]
+    ensures { map string_bytes result.now ≡ after_flag (map string_bytes words.now) }
+{
+    let [first, others @ ..] = words else {
+        return words;
+    };
+    if first.as_str() == "--uioco" {
+        return others;
+    }
+    words
+}
+
+/// The value of an option that stands first, and the words after it.
+fn option<'a>(words: &'a [String], name: &str) -> (Option<&'a str>, &'a [String])
+    ensures value { option_map (λ (w : _). w.now) result.0 ≡ value_of name.now (map string_bytes words.now) }
+    ensures rest { map string_bytes result.1.now ≡ after_option name.now (map string_bytes words.now) }
+{
+    let [first, value, others @ ..] = words else {
+        return (None, words);
+    };
+    if first.as_str() == name {
+        return (Some(value.as_str()), others);
+    }
+    (None, words)
+}
+
+/// Whether a word that stands as a value can be one.
+fn can_be_value(value: Option<&str>) -> bool
+    ensures { result ≡ is_value (option_map (λ (w : _). w.now) value.entry) }
+{
+    let Some(word) = value else {
+        return true;
+    };
+    match word.as_bytes() {
+        [] => true,
+        [_] => true,
+        [first, _, ..] => *first != b'-',
+    }
+}
+
+/// The two files at the end.
+fn files<'a>(
+    uioco: bool,
+    pairs: Option<&'a str>,
+    members: Option<&'a str>,
+    words: &'a [String],
+) -> Option<Parts<'a>>
+    ensures { option_map form_from result ≡ files_of uioco (option_map (λ (w : _). w.now) pairs.entry) (option_map (λ (w : _). w.now) members.entry) (map string_bytes words.now) }
 {
     let [spec, imp] = words else {
-        return Err(UsageKind::Words);
+        return None;
     };
     let spec = spec.as_str();
     let imp = imp.as_str();
     if !names_file(spec) {
-        return Err(UsageKind::Words);
+        return None;
     }
     if !names_file(imp) {
-        return Err(UsageKind::Words);
+        return None;
     }
-    Ok(Request {
-        mode: Mode::Ioco,
-        pairs: MOST_PAIRS,
-        members: MOST_MEMBERS,
+    Some(Parts {
+        uioco,
+        pairs,
+        members,
         spec,
         imp,
     })
@@ -84,4 +186,52 @@ fn names_file(word: &str) -> bool
         [] => false,
         [first, ..] => *first != b'-',
     }
+}
+
+/// What the parts ask for, None where a number is out of its form or range.
+fn values<'a>(parts: &Parts<'a>) -> Option<Request<'a>>
+    ensures asked { MatchOption result (IsNoNumber 200000 (form_from parts.now).pairs ⊎ IsNoNumber 33554432 (form_from parts.now).members) (λ r. Asks (form_from parts.now) (asked_from r)) }
+    ensures limits { IfSome result (λ r. (0 < r.pairs) × (r.pairs ≤ 200000) × (r.members ≤ 33554432)) }
+{
+    let Some(pairs) = number(parts.pairs, MOST_PAIRS, USUAL_PAIRS) else {
+        return None;
+    };
+    let Some(members) = number(parts.members, MOST_MEMBERS, USUAL_MEMBERS) else {
+        return None;
+    };
+    Some(Request {
+        mode: relation(parts.uioco),
+        pairs: pairs as u32,
+        members,
+        spec: parts.spec,
+        imp: parts.imp,
+    })
+}
+
+fn relation(uioco: bool) -> Mode
+    ensures { result ≡ mode_of uioco }
+{
+    if uioco { Mode::Uioco } else { Mode::Ioco }
+}
+
+/// The number of an option, from 1 to `most`.
+fn number(value: Option<&str>, most: u64, given: u64) -> Option<u64>
+    requires some { 0 < given }
+    requires given { given ≤ most }
+    ensures number { MatchOption result (IsNoNumber most (option_map (λ (w : _). w.now) value.entry)) (IsNumber most given (option_map (λ (w : _). w.now) value.entry)) }
+    ensures range { IfSome result (λ n. (0 < n) × (n ≤ most)) }
+{
+    let Some(word) = value else {
+        return Some(given);
+    };
+    let Some(number) = decimal(word.as_bytes()) else {
+        return None;
+    };
+    if number == 0 {
+        return None;
+    }
+    if number > most {
+        return None;
+    }
+    Some(number)
 }

@@ -1,6 +1,5 @@
-use Rattle.std.proofs.Common.{◌≡◌, ◌≤◌, ◌<◌, List, [], ◌∷◌, ◌∙◌, sym, subst, ap, length}
+use Rattle.std.proofs.Common.{◌≡◌, List, [], ◌∷◌, ◌∙◌, sym, subst}
 use Rattle.lts_base.specs.System.{System}
-use Rattle.lts_base.specs.Alphabet.{Alphabet}
 use Rattle.lts_base.specs.declared.sorting.Rule.TheVariants.{Prefix}
 use Rattle.lts_base.specs.Sorting.{IsAlphabetOf, AreSystemsFor}
 use Rattle.torx_tool.specs.Named.{asked_from}

@@ -1,4 +1,4 @@
-use Rattle.std.proofs.Common.{◌≡◌, ℕ, ◌+◌, ◌∙◌, length, arith}
+use Rattle.std.proofs.Common.{◌≡◌, length, arith}
 use Rattle.lts_base.specs.System.{label_count}
 use Rattle.torx_tool.specs.Named.{asked_from}
 use Rattle.torx_tool.proofs.Reports.{printable}

@@ -1,4 +1,4 @@
-use Rattle.std.proofs.Common.{◌≡◌, sym, subst}
+use Rattle.std.proofs.Common.{sym, subst}
 use Rattle.conf_decide.specs.Decided.{IsDecided}
 use Rattle.torx_tool.specs.Named.{asked_from}
 use Rattle.torx_tool.specs.Causes.{limits_of}

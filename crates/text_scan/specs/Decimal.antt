@@ -1,0 +1,11 @@
+-- Decimals.
+use Rattle.std.specs.Prelude.{◌≡◌, ℕ, ◌^◌, ◌<◌, ◌≤◌, List, length}
+use Rattle.std.specs.Str.Parse.{AllDigits, digits_value}
+
+-- the bytes are a decimal with this value: 1 to 20 digits, and the value is below 2^64
+pub record IsDecimal (bytes : List ℕ) (value : ℕ) : Type 0 where
+  pub some : 0 < length bytes
+  pub short : length bytes ≤ 20
+  pub digits : AllDigits 10 bytes
+  pub is : digits_value 10 bytes ≡ value
+  pub below : value < 2 ^ 64
