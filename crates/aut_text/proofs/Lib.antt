@@ -6,3 +6,5 @@ pub mod BuildLaws
 pub mod PrintLaws
 pub mod OnceLaws
 pub mod FaultLaws
+pub mod SpellingLaws
+pub mod AgainLaws

@@ -1,11 +1,15 @@
 -- The text of a system as an Aldebaran file.
-use Rattle.std.specs.Prelude.{ℕ, List, ◌++◌, length, codes, decimal}
+use Rattle.std.specs.Prelude.{◌≡◌, ℕ, ◌≤◌, false, List, ◌++◌, length, map, All, Option, Some, None, codes, decimal}
 use Rattle.std.specs.List.{flat_map}
+use Rattle.std.specs.Str.{bytes_eq}
 use Rattle.lts_base.specs.declared.action.Act.{Act}
 use Rattle.lts_base.specs.declared.action.Act.TheVariants.{Tau, Label}
 use Rattle.lts_base.specs.declared.action.Move.{Move}
 use Rattle.lts_base.specs.System.{System}
+use Rattle.lts_base.specs.Raw.{RawSystem}
 use Rattle.lts_base.specs.Alphabet.{Alphabet, text_at}
+use Rattle.aut_text.specs.Parts.{NamedMove}
+use Rattle.aut_text.specs.Grammar.{has_moves}
 
 -- the text of what a move carries
 abbrev pub act_text : List (List ℕ) → Act → List ℕ
@@ -27,3 +31,33 @@ header_text s = codes "des (" ++ decimal s.start ++ codes "," ++ decimal (length
 -- the header, and then the moves in order
 abbrev pub printed : Alphabet → System → List ℕ
 printed a s = header_text s ++ flat_map (line_text a.texts) s.moves
+
+-- the text of the label that a move carries; none is Tau
+abbrev pub act_label : List (List ℕ) → Act → Option (List ℕ)
+act_label texts Tau = None
+act_label texts (Label a) = Some (text_at texts a)
+
+-- the move with the text of its label
+abbrev pub named_move : List (List ℕ) → Move → NamedMove
+named_move texts m = record { from = m.from; label = act_label texts m.act; to = m.to }
+
+-- the system of a file says what the system over the alphabet says: the same states and start, and the same moves by the
+-- texts of their labels
+pub record Says (a : Alphabet) (s : System) (r : RawSystem) : Type 0 where
+  pub states : r.states ≡ s.states
+  pub start : r.start ≡ s.start
+  pub moves : has_moves r ≡ map (named_move a.texts) s.moves
+
+-- the text isn't one of the two that a file has for Tau
+pub record IsWritable (text : List ℕ) : Type 0 where
+  pub no_i : bytes_eq text (codes "i") ≡ false
+  pub no_tau : bytes_eq text (codes "tau") ≡ false
+
+-- none of the texts is one that a file has for Tau
+abbrev pub AreWritable : List (List ℕ) → Type 0
+AreWritable texts = All IsWritable texts
+
+-- a file has room for the system: at most 65,536 states and 1,048,576 moves
+pub record FitsFile (s : System) : Type 0 where
+  pub states : s.states ≤ 65536
+  pub moves : length s.moves ≤ 1048576

@@ -1,7 +1,7 @@
 //! Good and bad contents.
 use crate::line::read_move;
-use crate::{AutError, AutReader};
-use lts_base::{RawLts, RawMove};
+use crate::{AutError, AutReader, print};
+use lts_base::{Memory, RawLts, RawMove, Rule, SplitSystems, split};
 use std::alloc::{AllocError, Global};
 use std::test::Fail;
 
@@ -65,6 +65,34 @@ fn reads_the_whole_form(rt: HostRuntime) -> Result<(), Fail> {
     for (place, m) in raw.moves().as_slice().iter().enumerate() {
         assert!(rt; place < want.len() && *m == want[place]);
     }
+    Ok(())
+}
+
+// The moves stand in the order of their states, which a system has too.
+#[test]
+fn reads_what_it_prints(rt: HostRuntime) -> Result<(), Fail> {
+    let alloc = rt.alloc();
+    let raws = [read(
+        alloc,
+        b"des(1,4,3)\n(0,\"?put 1, x \",1)\n( 1 ,i, 2)\n(1,!out,0)\n(2,?put 1, x ,2)",
+    )?];
+    let Ok(SplitSystems { labels, systems }) = split(alloc, &raws, &Rule::Prefix) else {
+        return Err(Memory)?;
+    };
+    assert_eq!(rt; systems.as_slice().len(), 1);
+    let text = print(alloc, &systems.as_slice()[0], &labels)?;
+    let want: &[u8] =
+        b"des (1,4,3)\n(0,\"?put 1, x \",1)\n(1,\"tau\",2)\n(1,\"!out\",0)\n(2,\"?put 1, x\",2)\n";
+    assert!(rt; text.as_slice() == want);
+    let again = read(alloc, text.as_slice())?;
+    assert_eq!(rt; again.states(), raws[0].states());
+    assert_eq!(rt; again.start(), raws[0].start());
+    let texts = raws[0].labels().as_slice();
+    assert_eq!(rt; again.labels().as_slice().len(), texts.len());
+    for (place, label) in again.labels().as_slice().iter().enumerate() {
+        assert!(rt; place < texts.len() && label.as_slice() == texts[place].as_slice());
+    }
+    assert!(rt; again.moves().as_slice() == raws[0].moves().as_slice());
     Ok(())
 }
 

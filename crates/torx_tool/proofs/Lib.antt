@@ -1,3 +1,2 @@
 mod Reports
 mod Openings
-mod LineCount

@@ -12,20 +12,26 @@ use Rattle.conf_decide.specs.declared.answer.What.{What}
 use Rattle.conf_decide.specs.declared.answer.What.TheVariants.{Pairs, ImpMembers, SpecMembers}
 use Rattle.torx_tool.specs.declared.words.UsageKind.{UsageKind}
 use Rattle.torx_tool.specs.declared.words.UsageKind.TheVariants.{NoCommand, UnknownCommand, Words, Value}
+use Rattle.torx_tool.specs.declared.status.LimitWhat.{LimitWhat}
+use Rattle.torx_tool.specs.declared.status.LimitWhat.TheVariants.{Moves}
 use Rattle.torx_tool.specs.declared.status.FileError.{FileError}
 use Rattle.torx_tool.specs.declared.status.FileError.TheVariants.{Aut}
 use Rattle.torx_tool.specs.declared.status.Status.{Status}
-use Rattle.torx_tool.specs.declared.status.Status.TheVariants.{Conforms, Violates, Undecided, Usage, TooLong, BadFile, BadLabels, FileFault, OutFault, Memory}
+use Rattle.torx_tool.specs.declared.status.Status.TheVariants.{Conforms, Violates, Undecided, Printed, Limit, Usage, TooLong, BadFile, BadLabels, Divergent, NotEnabled, FileFault, OutFault, Memory}
 
 -- the exit status of each answer
 abbrev pub code_of : Status → ℕ
 code_of (Conforms pairs) = 0
 code_of (Violates trace shown) = 1
 code_of (Undecided what reached depth) = 2
+code_of Printed = 0
+code_of (Limit what reached) = 2
 code_of (Usage kind) = 3
 code_of (TooLong name) = 4
 code_of (BadFile name error) = 4
 code_of (BadLabels error) = 4
+code_of (Divergent name cycle) = 4
+code_of (NotEnabled name state input) = 4
 code_of (FileFault name) = 5
 code_of OutFault = 6
 code_of Memory = 8
@@ -48,6 +54,9 @@ abbrev pub what_text : What → List ℕ
 what_text Pairs = codes "undecided pairs="
 what_text ImpMembers = codes "undecided imp-members="
 what_text SpecMembers = codes "undecided spec-members="
+
+abbrev pub limit_text : LimitWhat → List ℕ
+limit_text Moves = codes "limit moves="
 
 abbrev pub kind_text : UsageKind → List ℕ
 kind_text NoCommand = codes "no-command"
@@ -75,15 +84,23 @@ labels_text (Reserved told) = line (codes "labels reserved ") told
 labels_text TooManyLabels = line (codes "labels too-many") []
 labels_text NoRoomForLabels = []
 
--- the whole text of an answer, by the texts of the labels
+-- states, each after a blank
+abbrev pub states_text : List ℕ → List ℕ
+states_text states = flat_map (λ (q : ℕ). codes " " ++ decimal q) states
+
+-- the whole text of an answer, by the texts of the labels; what is printed for its own sake has no such text
 abbrev pub text_of : List (List ℕ) → Status → List ℕ
 text_of texts (Conforms pairs) = line (codes "conforms pairs=") (decimal pairs)
 text_of texts (Violates trace shown) = line (codes "violates") [] ++ (trace_text texts trace ++ line (codes "shows ") (item_text texts shown))
 text_of texts (Undecided what reached depth) = what_text what ++ (decimal reached ++ line (codes " depth=") (decimal depth))
+text_of texts Printed = []
+text_of texts (Limit what reached) = line (limit_text what) (decimal reached)
 text_of texts (Usage kind) = line (codes "usage ") (kind_text kind)
 text_of texts (TooLong name) = line (codes "too-long ") name
 text_of texts (BadFile name error) = codes "bad " ++ (name ++ line (codes " ") (error_text error))
 text_of texts (BadLabels error) = labels_text error
+text_of texts (Divergent name cycle) = codes "divergent " ++ (name ++ (states_text cycle ++ 10 ∷ []))
+text_of texts (NotEnabled name state input) = codes "not-enabled " ++ (name ++ (codes " state=" ++ (decimal state ++ line (codes " input=") (text_at texts input))))
 text_of texts (FileFault name) = line (codes "fault ") name
 text_of texts OutFault = []
 text_of texts Memory = []
@@ -94,9 +111,11 @@ IsPrintable n (Input a) = a < n
 IsPrintable n (Output a) = a < n
 IsPrintable n Delta = Unit {0}
 
--- the answer is a refusal: no decision was made
+-- the answer is a refusal that is printed without the labels of an alphabet
 abbrev pub IsRefusal : Status → Type 0
 IsRefusal (Conforms pairs) = ⊥
 IsRefusal (Violates trace shown) = ⊥
 IsRefusal (Undecided what reached depth) = ⊥
+IsRefusal (NotEnabled name state input) = ⊥
+IsRefusal Printed = ⊥
 IsRefusal other = Unit {0}

@@ -1,17 +1,20 @@
 //! `check`: the two systems over one alphabet, the decision, and its report.
-ghost use Rattle.std.specs.Prelude.{◌≡◌, ◌⊎◌, ◌-◌, ◌<◌, ◌≤◌, List, [], ◌∷◌, length, All};
+ghost use Rattle.std.specs.Prelude.{◌≡◌, ◌⊎◌, ◌-◌, ◌<◌, ◌≤◌, List, [], ◌∷◌, length, All, IfOk, MatchOption, Some, true};
 ghost use Rattle.lts_base.specs.Alphabet.{IsOver};
+ghost use Rattle.lts_base.specs.Shape.{IsConvergent};
+ghost use Rattle.lts_shape.specs.Inputs.{IsFirstMissing};
 ghost use Rattle.torx_tool.specs.Printed.{text_of};
 ghost use Rattle.torx_tool.specs.Named.{asked_from};
-ghost use Rattle.torx_tool.specs.Causes.{Compares, reported, IsPrintableAnswer, IsReportOf};
+ghost use Rattle.torx_tool.specs.Causes.{Compares, reported, IsPrintableAnswer, IsReportOf, IsDiverging, IsDivergence, IsEnabledFor, IsDisabled};
 
 use crate::decision::decision;
-use crate::print::{conformance, cut, violation};
-use crate::report::{Report, no_memory, refused};
+use crate::print::{conformance, cut, not_enabled, violation};
+use crate::report::{Report, divergent, no_memory, refused};
 use crate::status::Status;
 use crate::words::Request;
 use conf_decide::Answer;
-use lts_base::{Labels, Lts, Memory, RawLts, Rule, SplitError, split};
+use lts_base::{Labels, Listed, Lts, Memory, RawLts, Rule, SplitError, split};
+use lts_shape::{missing_input, tau_cycle};
 use std::alloc::Global;
 
 /// What `check` answers for two raw systems.
@@ -34,13 +37,113 @@ pub fn compare(alloc: Global, request: &Request<'_>, spec: RawLts, imp: RawLts) 
     }
 }
 
-/// The decision on two systems over the labels, and its report.
+/// The report on two systems over the labels.
 fn decided(alloc: Global, request: &Request<'_>, labels: &Labels, spec: &Lts, imp: &Lts) -> Report
     requires some { 0 < request.now.pairs }
     requires pairs { request.now.pairs ≤ 200000 }
     requires members { request.now.members ≤ 33554432 }
     requires spec { IsOver labels.now spec.now }
     requires imp { IsOver labels.now imp.now }
+    ensures { (result.status ≡ Status.Memory) ⊎ (IsDivergence (asked_from request.now) spec.now imp.now result.status result.text ⊎ IsDisabled (asked_from request.now) labels.now.texts spec.now imp.now result.status result.text ⊎ IsReportOf (asked_from request.now) labels.now.texts spec.now imp.now result.status result.text) }
+{
+    match divergence(alloc, request, spec, imp) {
+        Ok(None) => convergent(alloc, request, labels, spec, imp),
+        Ok(Some(status)) => refused(alloc, status),
+        Err(_) => no_memory(alloc),
+    }
+}
+
+/// The answer that one of the systems isn't convergent, None where both are.
+fn divergence(
+    alloc: Global,
+    request: &Request<'_>,
+    spec: &Lts,
+    imp: &Lts,
+) -> Result<Option<Status>, Memory>
+    ensures { IfOk result (λ found. MatchOption found (IsConvergent spec.now × IsConvergent imp.now) (IsDiverging (asked_from request.now) spec.now imp.now)) }
+{
+    if let Some(cycle) = tau_cycle(alloc, spec)? {
+        return Ok(Some(divergent(alloc, request.spec, cycle)?));
+    }
+    if let Some(cycle) = tau_cycle(alloc, imp)? {
+        return Ok(Some(divergent(alloc, request.imp, cycle)?));
+    }
+    Ok(None)
+}
+
+/// The report on two convergent systems over the labels.
+fn convergent(
+    alloc: Global,
+    request: &Request<'_>,
+    labels: &Labels,
+    spec: &Lts,
+    imp: &Lts,
+) -> Report
+    requires some { 0 < request.now.pairs }
+    requires pairs { request.now.pairs ≤ 200000 }
+    requires members { request.now.members ≤ 33554432 }
+    requires spec { IsOver labels.now spec.now }
+    requires imp { IsOver labels.now imp.now }
+    requires convergent { IsConvergent spec.now × IsConvergent imp.now }
+    ensures { (result.status ≡ Status.Memory) ⊎ (IsDisabled (asked_from request.now) labels.now.texts spec.now imp.now result.status result.text ⊎ IsReportOf (asked_from request.now) labels.now.texts spec.now imp.now result.status result.text) }
+{
+    let _ = labels.count();
+    match lacking(alloc, request, imp) {
+        Ok(None) => settled(alloc, request, labels, spec, imp),
+        Ok(Some((state, label))) => disabled(alloc, request, labels, state, label),
+        Err(_) => no_memory(alloc),
+    }
+}
+
+/// The first state and input that the implementation lacks, where it has to be input-enabled.
+fn lacking(alloc: Global, request: &Request<'_>, imp: &Lts) -> Result<Option<(u32, u32)>, Memory>
+    ensures { IfOk result (λ found. MatchOption found (IsEnabledFor (asked_from request.now) imp.now) (λ pair. (request.now.enabled ≡ true) × IsFirstMissing imp.now imp.now.inputs pair.0 pair.1)) }
+{
+    if !request.enabled {
+        return Ok(None);
+    }
+    missing_input(alloc, imp)
+}
+
+/// The report that the implementation lacks an input.
+fn disabled(alloc: Global, request: &Request<'_>, labels: &Labels, state: u32, label: u32) -> Report
+    requires { label < length labels.now.texts }
+    ensures { (result.status ≡ Status.Memory) ⊎ ((result.status ≡ Status.NotEnabled request.now.imp.now state label) × (result.text ≡ text_of labels.now.texts result.status)) }
+{
+    let name = request.imp.as_bytes();
+    match disabled_report(alloc, labels, name, state, label) {
+        Ok(report) => report,
+        Err(_) => no_memory(alloc),
+    }
+}
+
+fn disabled_report(
+    alloc: Global,
+    labels: &Labels,
+    name: &[u8],
+    state: u32,
+    label: u32,
+) -> Result<Report, Memory>
+    requires { label < length labels.now.texts }
+    ensures { IfOk result (λ r. (r.status ≡ Status.NotEnabled name.now state label) × (r.text ≡ text_of labels.now.texts (Status.NotEnabled name.now state label))) }
+{
+    let text = not_enabled(alloc, labels, name, state, label)?;
+    let name = Listed::from_vec(Vec::from_slice(alloc, name)?);
+    Ok(Report {
+        status: Status::NotEnabled { name, state, label },
+        text,
+    })
+}
+
+/// The decision on two systems that are as they have to be, over the labels, and its report.
+fn settled(alloc: Global, request: &Request<'_>, labels: &Labels, spec: &Lts, imp: &Lts) -> Report
+    requires some { 0 < request.now.pairs }
+    requires pairs { request.now.pairs ≤ 200000 }
+    requires members { request.now.members ≤ 33554432 }
+    requires spec { IsOver labels.now spec.now }
+    requires imp { IsOver labels.now imp.now }
+    requires convergent { IsConvergent spec.now × IsConvergent imp.now }
+    requires enabled { IsEnabledFor (asked_from request.now) imp.now }
     ensures { (result.status ≡ Status.Memory) ⊎ IsReportOf (asked_from request.now) labels.now.texts spec.now imp.now result.status result.text }
 {
     let _ = labels.count();

@@ -2,6 +2,7 @@
 #![tactic(auto)]
 
 mod compare;
+mod complete;
 mod decision;
 mod load;
 mod print;

@@ -1,8 +1,9 @@
 //! The texts of the answers.
-ghost use Rattle.std.specs.Prelude.{◌≡◌, ◌++◌, List, [], length, All, OnOk, IfOk, codes, decimal, string_bytes};
-ghost use Rattle.torx_tool.specs.Printed.{line, item_text, trace_text, what_text, kind_text, aut_text as aut_error_text, error_text, labels_text, text_of, IsPrintable, IsRefusal};
+ghost use Rattle.std.specs.Prelude.{◌≡◌, ◌<◌, ◌++◌, ◌∷◌, List, [], length, All, OnOk, IfOk, codes, decimal, string_bytes};
+ghost use Rattle.lts_base.specs.Alphabet.{text_at};
+ghost use Rattle.torx_tool.specs.Printed.{line, item_text, trace_text, what_text, limit_text, kind_text, aut_text as aut_error_text, states_text, error_text, labels_text, text_of, IsPrintable, IsRefusal};
 
-use crate::status::{FileError, Status};
+use crate::status::{FileError, LimitWhat, Status};
 use crate::words::UsageKind;
 use aut_text::AutError;
 use conf_decide::What;
@@ -98,6 +99,16 @@ fn one_line(alloc: Global, front: &[u8], rest: &[u8]) -> Result<Text, AllocError
     Ok(Listed::from_vec(text))
 }
 
+/// The text of a limit that was passed.
+fn limit(alloc: Global, what: LimitWhat, reached: u64) -> Result<Text, AllocError>
+    ensures { IfOk result (λ text. text ≡ line (limit_text what) (decimal reached)) }
+{
+    let number = reached.to_string(alloc)?;
+    match what {
+        LimitWhat::Moves => one_line(alloc, b"limit moves=", number.as_bytes()),
+    }
+}
+
 /// The text of words that are no command.
 pub fn usage(alloc: Global, kind: UsageKind) -> Result<Text, AllocError>
     ensures { IfOk result (λ text. text ≡ line (codes "usage ") (kind_text kind)) }
@@ -165,16 +176,61 @@ fn miscounted(alloc: Global, declared: u32, found: u32) -> Result<String, AllocE
     Ok(text)
 }
 
+/// Appends states, each after a blank.
+fn put_states(alloc: Global, text: &mut Vec<u8>, states: &[u32]) -> Result<(), AllocError>
+    ensures { OnOk result (text.new.items ≡ text.old.items ++ states_text states.now) }
+{
+    'states: for state in states {
+        let number = state.to_string(alloc)?;
+        text.extend_from_slice(b" ")?;
+        text.extend_from_slice(number.as_bytes())?;
+    }
+    Ok(())
+}
+
+/// The text of a cycle of internal moves.
+fn divergent(alloc: Global, name: &[u8], cycle: &[u32]) -> Result<Text, AllocError>
+    ensures { IfOk result (λ text. text ≡ codes "divergent " ++ (name.now ++ (states_text cycle.now ++ 10 ∷ []))) }
+{
+    let mut text = Vec::from_slice(alloc, b"divergent ")?;
+    text.extend_from_slice(name)?;
+    put_states(alloc, &mut text, cycle)?;
+    text.extend_from_slice(b"\n")?;
+    Ok(Listed::from_vec(text))
+}
+
+/// The text of an implementation that isn't input-enabled.
+pub fn not_enabled(
+    alloc: Global,
+    labels: &Labels,
+    name: &[u8],
+    state: u32,
+    label: u32,
+) -> Result<Text, AllocError>
+    requires { label < length labels.now.texts }
+    ensures { IfOk result (λ text. text ≡ codes "not-enabled " ++ (name.now ++ (codes " state=" ++ (decimal state ++ line (codes " input=") (text_at labels.now.texts label))))) }
+{
+    let mut text = Vec::from_slice(alloc, b"not-enabled ")?;
+    text.extend_from_slice(name)?;
+    text.extend_from_slice(b" state=")?;
+    let number = state.to_string(alloc)?;
+    text.extend_from_slice(number.as_bytes())?;
+    put_line(&mut text, b" input=", labels.text(label))?;
+    Ok(Listed::from_vec(text))
+}
+
 /// The text of a refusal, which needs no labels.
 pub fn refusal(alloc: Global, status: &Status) -> Result<Text, AllocError>
     requires { IsRefusal status.now }
     ensures { IfOk result (λ text. text ≡ text_of [] status.now) }
 {
     match status {
+        Status::Limit { what, reached } => limit(alloc, *what, *reached),
         Status::Usage { kind } => usage(alloc, *kind),
         Status::TooLong { name } => one_line(alloc, b"too-long ", name.as_slice()),
         Status::BadFile { name, error } => bad_file(alloc, name.as_slice(), error),
         Status::BadLabels { error } => bad_labels(alloc, error),
+        Status::Divergent { name, cycle } => divergent(alloc, name.as_slice(), cycle.as_slice()),
         Status::FileFault { name } => one_line(alloc, b"fault ", name.as_slice()),
         _ => Ok(Listed::new(alloc)),
     }

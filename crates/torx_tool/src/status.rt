@@ -5,13 +5,20 @@ ghost use Rattle.torx_tool.specs.Printed.{code_of};
 use crate::words::UsageKind;
 use aut_text::AutError;
 use conf_decide::What;
-use lts_base::{Item, SplitError, Text, Trace};
+use lts_base::{Item, SplitError, StateList, Text, Trace};
 
 /// Why a file isn't in its grammar. Want of memory never stands here.
 #[derive(Drop, Debug)]
 pub enum FileError {
     /// It is no Aldebaran file.
     Aut(AutError),
+}
+
+/// What there was too much of.
+#[derive(Clone, Copy, PartialEq, Eq, Debug)]
+pub enum LimitWhat {
+    /// Moves of a system.
+    Moves,
 }
 
 /// The answer of a run.
@@ -38,6 +45,15 @@ pub enum Status {
         /// The length of the least trace at which it was passed.
         depth: u32,
     },
+    /// What was asked for was printed.
+    Printed,
+    /// A limit was passed.
+    Limit {
+        /// The limit.
+        what: LimitWhat,
+        /// How far it was passed.
+        reached: u64,
+    },
     /// The words aren't a command.
     Usage {
         /// Why.
@@ -60,6 +76,22 @@ pub enum Status {
         /// The first label at fault, or that there are too many.
         error: SplitError,
     },
+    /// A system has a cycle of internal moves.
+    Divergent {
+        /// The name of its file.
+        name: Text,
+        /// The states of the cycle.
+        cycle: StateList,
+    },
+    /// The implementation isn't input-enabled, though that is asked for.
+    NotEnabled {
+        /// The name of its file.
+        name: Text,
+        /// The least state that ends some trace and lacks an input.
+        state: u32,
+        /// The least input that it lacks, by the number of the label.
+        label: u32,
+    },
     /// A file couldn't be read.
     FileFault {
         /// Its name.
@@ -81,10 +113,14 @@ impl Status {
             Status::Conforms { .. } => 0,
             Status::Violates { .. } => 1,
             Status::Undecided { .. } => 2,
+            Status::Printed => 0,
+            Status::Limit { .. } => 2,
             Status::Usage { .. } => 3,
             Status::TooLong { .. } => 4,
             Status::BadFile { .. } => 4,
             Status::BadLabels { .. } => 4,
+            Status::Divergent { .. } => 4,
+            Status::NotEnabled { .. } => 4,
             Status::FileFault { .. } => 5,
             Status::OutFault => 6,
             Status::Memory => 8,

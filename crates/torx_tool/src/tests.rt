@@ -3,10 +3,11 @@ use crate::run::run;
 use edge_io::{Contents, MemFiles, MemSink, NamedText, Numbers};
 use lts_base::{Listed, Memory};
 use std::alloc::{AllocError, Global};
+use std::process::Abort;
 use std::test::Fail;
 
 /// The files that the cases speak of.
-const FILES: [(&str, &str); 15] = [
+const FILES: [(&str, &str); 20] = [
     (
         "S.aut",
         "des (0,3,3)\n(0,\"?coin\",1)\n(1,\"!tea\",2)\n(1,\"!coffee\",2)\n",
@@ -36,8 +37,16 @@ const FILES: [(&str, &str); 15] = [
         "C.aut",
         "des (0,4,3)\n(0,\"?coin\",1)\n(1,\"!tea\",2)\n(1,\"!coffee\",2)\n",
     ),
+    ("F.aut", "des (0,1,1)\n(0,\"!x\",0)\n"),
+    ("K.aut", "des (0, 1, 2)\r\n(0, ?put 1, x, 1)\r\n"),
+    ("O.aut", "des (0,1,1)\n(0,\"\",0)\n"),
     ("G.aut", "des (0,1,2)\n(0,\"coin\",1)\n"),
     ("T.aut", "des (0,1,2)\n(0,\"tau\",1)\n"),
+    ("D.aut", "des (0,1,1)\n(0,\"tau\",0)\n"),
+    (
+        "L.aut",
+        "des (0,4,5)\n(0,\"?coin\",1)\n(2,i,3)\n(3,i,4)\n(4,tau,2)\n",
+    ),
     ("B.aut", "des (0,1,2)\n(0,\"?a\",2)\n"),
     ("Y.aut", "des (0,2,3)\n(0,\"tau\",1)\n(0,\"!x\",2)\n"),
 ];
@@ -65,10 +74,20 @@ fn words_of(alloc: Global, line: &str) -> Result<Vec<String>, AllocError> {
     Ok(words)
 }
 
+/// Runs the words, and compares what is printed and the exit status.
+fn answers<R: Abort>(rt: &R, alloc: Global, line: &str, want: &str, code: u8) -> Result<(), Fail> {
+    let mut files = MemFiles::new(contents(alloc)?, Numbers::new(alloc));
+    let mut out = MemSink::new(alloc, 1000, 1000, Numbers::new(alloc))?;
+    let words = words_of(alloc, line)?;
+    let status = run(alloc, &words, &mut files, &mut out);
+    assert_eq!(rt; out.written(), want.as_bytes());
+    assert_eq!(rt; status.code(), code);
+    Ok(())
+}
+
 #[test]
-fn prints_the_answer(rt: HostRuntime) -> Result<(), Fail> {
-    let alloc = rt.alloc();
-    let rows: [(&str, &str, u8); 40] = [
+fn decides(rt: HostRuntime) -> Result<(), Fail> {
+    let rows: [(&str, &str, u8); 25] = [
         ("check S.aut I.aut", "conforms pairs=3\n", 0),
         (
             "check S.aut M.aut",
@@ -88,6 +107,9 @@ fn prints_the_answer(rt: HostRuntime) -> Result<(), Fail> {
             1,
         ),
         ("check --uioco U.aut V.aut", "conforms pairs=2\n", 0),
+        ("check F.aut X.aut", "violates\nafter !x\nshows delta\n", 1),
+        ("check X.aut K.aut", "violates\nshows delta\n", 1),
+        ("check K.aut K.aut", "conforms pairs=2\n", 0),
         (
             "check R.aut W.aut",
             "violates\nafter ?a\nafter !x\nafter ?a\nshows !y\n",
@@ -150,6 +172,22 @@ fn prints_the_answer(rt: HostRuntime) -> Result<(), Fail> {
             "violates\nafter ?a\nafter !x\nafter ?a\nshows !y\n",
             1,
         ),
+        (
+            "check --uioco --enabled S.aut I.aut",
+            "conforms pairs=3\n",
+            0,
+        ),
+    ];
+    for (line, want, code) in rows {
+        answers(&rt, rt.alloc(), line, want, code)?;
+    }
+    Ok(())
+}
+
+#[test]
+fn tells_what_is_wrong_with_files(rt: HostRuntime) -> Result<(), Fail> {
+    let rows: [(&str, &str, u8); 16] = [
+        ("check O.aut I.aut", "bad O.aut line 2\n", 4),
         ("check Z.aut I.aut", "bad Z.aut header\n", 4),
         (
             "check C.aut I.aut",
@@ -163,8 +201,37 @@ fn prints_the_answer(rt: HostRuntime) -> Result<(), Fail> {
         ),
         ("check B.aut C.aut", "bad B.aut state 2\n", 4),
         ("check G.aut I.aut", "labels unsorted coin\n", 4),
+        (
+            "check --enabled S.aut M.aut",
+            "not-enabled M.aut state=1 input=?coin\n",
+            4,
+        ),
+        (
+            "angelic S.aut",
+            "des (0,5,3)\n(0,\"?coin\",1)\n(1,\"?coin\",1)\n(1,\"!coffee\",2)\n(1,\"!tea\",2)\n(2,\"?coin\",2)\n",
+            0,
+        ),
+        ("angelic E.aut", "des (0,0,1)\n", 0),
+        ("angelic D.aut", "divergent D.aut 0\n", 4),
+        ("angelic N.aut", "fault N.aut\n", 5),
+        ("check D.aut D.aut", "divergent D.aut 0\n", 4),
+        ("check S.aut D.aut", "divergent D.aut 0\n", 4),
+        ("check L.aut D.aut", "divergent L.aut 3 4 2\n", 4),
         ("check N.aut I.aut", "fault N.aut\n", 5),
         ("check S.aut N.aut", "fault N.aut\n", 5),
+    ];
+    for (line, want, code) in rows {
+        answers(&rt, rt.alloc(), line, want, code)?;
+    }
+    Ok(())
+}
+
+#[test]
+fn refuses_words(rt: HostRuntime) -> Result<(), Fail> {
+    let rows: [(&str, &str, u8); 15] = [
+        ("check --enabled --uioco S.aut I.aut", "usage words\n", 3),
+        ("angelic", "usage words\n", 3),
+        ("angelic S.aut S.aut", "usage words\n", 3),
         ("", "usage no-command\n", 3),
         ("chek S.aut I.aut", "usage unknown-command\n", 3),
         ("--help", "usage unknown-command\n", 3),
@@ -183,12 +250,7 @@ fn prints_the_answer(rt: HostRuntime) -> Result<(), Fail> {
         ("check --members - S.aut I.aut", "usage value\n", 3),
     ];
     for (line, want, code) in rows {
-        let mut files = MemFiles::new(contents(alloc)?, Numbers::new(alloc));
-        let mut out = MemSink::new(alloc, 1000, 1000, Numbers::new(alloc))?;
-        let words = words_of(alloc, line)?;
-        let status = run(alloc, &words, &mut files, &mut out);
-        assert_eq!(rt; out.written(), want.as_bytes());
-        assert_eq!(rt; status.code(), code);
+        answers(&rt, rt.alloc(), line, want, code)?;
     }
     Ok(())
 }

@@ -2,8 +2,8 @@
 ghost use Rattle.std.specs.Prelude.{◌≡◌, ◌<◌, ◌≤◌, List, ℕ, map, IfOk, IfSome, ◌⊎◌, MatchOption, MatchResult, Option, codes};
 ghost use Rattle.std.specs.Option.{option_map};
 ghost use Rattle.std.specs.String.{string_bytes};
-ghost use Rattle.torx_tool.specs.Words.{AskFor, RefusesWords, Asks, form_of, files_of, has_flag, after_flag, value_of, after_option, is_file, is_value, mode_of, IsNumber, IsNoNumber};
-ghost use Rattle.torx_tool.specs.Named.{asked_from, form_from};
+ghost use Rattle.torx_tool.specs.Words.{AsksWith, RefusesWords, RefusesCheck, one_file as the_file, Asks, form_of, files_of, has_flag, after_flag, value_of, after_option, is_file, is_value, mode_of, IsNumber, IsNoNumber};
+ghost use Rattle.torx_tool.specs.Named.{asked_from, form_from, IsCommand, AreLimited};
 
 use lts_base::Mode;
 use text_scan::decimal;
@@ -37,6 +37,8 @@ const USUAL_MEMBERS: u64 = 16_777_216;
 pub struct Request<'a> {
     /// The conformance relation.
     pub mode: Mode,
+    /// Whether the implementation has to be input-enabled.
+    pub enabled: bool,
     /// The most pairs, 1 to 200,000.
     pub pairs: u32,
     /// The most members of the sets of each side, 1 to 33,554,432.
@@ -50,8 +52,10 @@ pub struct Request<'a> {
 /// The words of `check`, taken apart.
 #[derive(Clone, Copy, Debug)]
 pub struct Parts<'a> {
-    /// Whether the flag stands.
+    /// Whether the flag `--uioco` stands.
     pub uioco: bool,
+    /// Whether the flag `--enabled` stands.
+    pub enabled: bool,
     /// The value of the option `--pairs`.
     pub pairs: Option<&'a str>,
     /// The value of the option `--members`.
@@ -63,17 +67,44 @@ pub struct Parts<'a> {
 }
 
 /// What the words ask for.
-pub fn command(words: &[String]) -> Result<Request<'_>, UsageKind>
-    ensures asked { MatchResult result (λ r. AskFor (map string_bytes words.now) (asked_from r)) (RefusesWords (map string_bytes words.now)) }
-    ensures limits { IfOk result (λ r. (0 < r.pairs) × (r.pairs ≤ 200000) × (r.members ≤ 33554432)) }
+#[derive(Clone, Copy, Debug)]
+pub enum Command<'a> {
+    /// To compare two systems.
+    Check(Request<'a>),
+    /// To complete the system of this file.
+    Angelic(&'a str),
+}
+
+/// What the words ask for.
+pub fn command_of(words: &[String]) -> Result<Command<'_>, UsageKind>
+    ensures asked { MatchResult result (IsCommand (map string_bytes words.now)) (RefusesWords (map string_bytes words.now)) }
+    ensures limits { IfOk result AreLimited }
 {
     let [first, others @ ..] = words else {
         return Err(UsageKind::NoCommand);
     };
-    if first.as_str() != "check" {
-        return Err(UsageKind::UnknownCommand);
+    let first = first.as_str();
+    if first == "check" {
+        return match check(others) {
+            Ok(request) => Ok(Command::Check(request)),
+            Err(kind) => Err(kind),
+        };
     }
-    let Some(parts) = form(others) else {
+    if first == "angelic" {
+        return match one_file(others) {
+            Some(name) => Ok(Command::Angelic(name)),
+            None => Err(UsageKind::Words),
+        };
+    }
+    Err(UsageKind::UnknownCommand)
+}
+
+/// What the words after `check` ask for.
+fn check(words: &[String]) -> Result<Request<'_>, UsageKind>
+    ensures asked { MatchResult result (λ r. AsksWith (map string_bytes words.now) (asked_from r)) (RefusesCheck (map string_bytes words.now)) }
+    ensures limits { IfOk result (λ r. (0 < r.pairs) × (r.pairs ≤ 200000) × (r.members ≤ 33554432)) }
+{
+    let Some(parts) = form(words) else {
         return Err(UsageKind::Words);
     };
     let Some(request) = values(&parts) else {
@@ -82,12 +113,28 @@ pub fn command(words: &[String]) -> Result<Request<'_>, UsageKind>
     Ok(request)
 }
 
+/// The one file that the words name.
+fn one_file(words: &[String]) -> Option<&str>
+    ensures { option_map (λ (w : _). w.now) result ≡ the_file (map string_bytes words.now) }
+{
+    let [name] = words else {
+        return None;
+    };
+    let name = name.as_str();
+    if !names_file(name) {
+        return None;
+    }
+    Some(name)
+}
+
 /// The words after `check`, taken apart.
 fn form(words: &[String]) -> Option<Parts<'_>>
     ensures { option_map form_from result ≡ form_of (map string_bytes words.now) }
 {
-    let uioco = flag(words);
-    let (pairs, words) = option(past_flag(words), "--pairs");
+    let uioco = flag(words, "--uioco");
+    let words = past_flag(words, "--uioco");
+    let enabled = flag(words, "--enabled");
+    let (pairs, words) = option(past_flag(words, "--enabled"), "--pairs");
     let (members, words) = option(words, "--members");
     if !can_be_value(pairs) {
         return None;
@@ -95,27 +142,27 @@ fn form(words: &[String]) -> Option<Parts<'_>>
     if !can_be_value(members) {
         return None;
     }
-    files(uioco, pairs, members, words)
+    files(uioco, enabled, pairs, members, words)
 }
 
-/// Whether the flag `--uioco` stands first.
-fn flag(words: &[String]) -> bool
-    ensures { result ≡ has_flag (map string_bytes words.now) }
+/// Whether the flag of this name stands first.
+fn flag(words: &[String], name: &str) -> bool
+    ensures { result ≡ has_flag name.now (map string_bytes words.now) }
 {
     match words {
         [] => false,
-        [first, ..] => first.as_str() == "--uioco",
+        [first, ..] => first.as_str() == name,
     }
 }
 
-/// The words after the flag.
-fn past_flag(words: &[String]) -> &[String]
-    ensures { map string_bytes result.now ≡ after_flag (map string_bytes words.now) }
+/// The words after the flag of this name.
+fn past_flag<'a>(words: &'a [String], name: &str) -> &'a [String]
+    ensures { map string_bytes result.now ≡ after_flag name.now (map string_bytes words.now) }
 {
     let [first, others @ ..] = words else {
         return words;
     };
-    if first.as_str() == "--uioco" {
+    if first.as_str() == name {
         return others;
     }
     words
@@ -152,11 +199,12 @@ fn can_be_value(value: Option<&str>) -> bool
 /// The two files at the end.
 fn files<'a>(
     uioco: bool,
+    enabled: bool,
     pairs: Option<&'a str>,
     members: Option<&'a str>,
     words: &'a [String],
 ) -> Option<Parts<'a>>
-    ensures { option_map form_from result ≡ files_of uioco (option_map (λ (w : _). w.now) pairs.entry) (option_map (λ (w : _). w.now) members.entry) (map string_bytes words.now) }
+    ensures { option_map form_from result ≡ files_of uioco enabled (option_map (λ (w : _). w.now) pairs.entry) (option_map (λ (w : _). w.now) members.entry) (map string_bytes words.now) }
 {
     let [spec, imp] = words else {
         return None;
@@ -171,6 +219,7 @@ fn files<'a>(
     }
     Some(Parts {
         uioco,
+        enabled,
         pairs,
         members,
         spec,
@@ -201,6 +250,7 @@ fn values<'a>(parts: &Parts<'a>) -> Option<Request<'a>>
     };
     Some(Request {
         mode: relation(parts.uioco),
+        enabled: parts.enabled,
         pairs: pairs as u32,
         members,
         spec: parts.spec,

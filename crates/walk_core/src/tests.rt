@@ -75,12 +75,12 @@ fn machine<R: Abort>(rt: &R, alloc: Global) -> Result<Lts, Fail>
     Ok(lts)
 }
 
-/// Walks over the machine. With a limit of 2 members the third set doesn't fit.
+/// Walks over the machine. With a limit of 1 member the second set doesn't fit, and with 2 the third.
 fn serve<L: Ledger, W: Walk, R: Abort>(
     rt: &R,
     walk: &mut W,
     blank: Blank,
-    fits: bool,
+    most: u64,
 ) -> Result<(), Fail>
     requires inputs { (W.walked walk.old).system.inputs ≡ 1 }
     requires outputs { (W.walked walk.old).system.outputs ≡ 2 }
@@ -93,6 +93,14 @@ fn serve<L: Ledger, W: Walk, R: Abort>(
     assert_eq!(rt; walk.states(begin), [0].as_slice());
     assert!(rt; walk.shows(begin, Item::Delta));
     assert!(rt; walk.allows(begin, Mode::Uioco, Item::Input(0)));
+    if most == 1 {
+        assert_eq!(rt;
+            walk.step(begin, Item::Input(0), &mut steps),
+            Err(WalkError::Full { reached: 2 })
+        );
+        assert_eq!(rt; walk.members(), 1);
+        return Ok(());
+    }
     let paid = walk
         .step(begin, Item::Input(0), &mut steps)?
         .expect(rt, "a coin is taken");
@@ -100,7 +108,7 @@ fn serve<L: Ledger, W: Walk, R: Abort>(
     assert!(rt; walk.shows(paid, Item::Output(1)));
     assert!(rt; !walk.allows(paid, Mode::Ioco, Item::Input(0)));
     assert_eq!(rt; walk.members(), 2);
-    if !fits {
+    if most == 2 {
         assert_eq!(rt;
             walk.step(paid, Item::Output(2), &mut steps),
             Err(WalkError::Full { reached: 3 })
@@ -126,9 +134,11 @@ fn plain_walk(rt: HostRuntime) -> Result<(), Fail> {
     let alloc = rt.alloc();
     let lts = machine(&rt, alloc)?;
     assert!(rt; PlainWalk::new(alloc, &lts, 0).err() == Some(WalkError::Full { reached: 1 }));
-    let mut small = PlainWalk::new(alloc, &lts, 2)?;
-    serve::<Brand, _, _>(&rt, &mut small, Blank::new(1), false)?;
+    let mut small = PlainWalk::new(alloc, &lts, 1)?;
+    serve::<Brand, _, _>(&rt, &mut small, Blank::new(1), 1)?;
+    let mut larger = PlainWalk::new(alloc, &lts, 2)?;
+    serve::<Brand, _, _>(&rt, &mut larger, Blank::new(1), 2)?;
     let mut walk = PlainWalk::new(alloc, &lts, 3)?;
-    serve::<Brand, _, _>(&rt, &mut walk, Blank::new(1), true)?;
+    serve::<Brand, _, _>(&rt, &mut walk, Blank::new(1), 3)?;
     Ok(())
 }

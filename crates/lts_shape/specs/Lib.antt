@@ -1,0 +1,7 @@
+pub mod Peel
+pub mod Cycle
+pub mod Arrivals
+pub mod Marks
+pub mod Inputs
+pub mod Choice
+pub mod Angelic
