@@ -155,7 +155,7 @@ fn names_the_first_fault(rt: HostRuntime) -> Result<(), Fail> {
 #[test]
 fn keeps_to_the_lengths(rt: HostRuntime) -> Result<(), Fail> {
     let alloc = rt.alloc();
-    let rows: [(&[u8], u8, u32, &[u8], &str); 11] = [
+    let rows: [(&[u8], u8, u32, &[u8], &str); 13] = [
         (b"des (0,0,1)", b' ', 4085, b"\n", "ok"),
         (b"des (0,0,1)", b' ', 4086, b"\n", "header"),
         (b"des (0,0,1)", b' ', 4085, b"\r\n", "header"),
@@ -167,6 +167,8 @@ fn keeps_to_the_lengths(rt: HostRuntime) -> Result<(), Fail> {
         (b"des (0,1,1)\n(0,", b'a', 1024, b",0)", "ok"),
         (b"des (0,1,1)\n(0,\"", b'a', 1025, b"\",0)", "label-long 2"),
         (b"des (0,1,1)\n(0,", b'a', 1025, b",1)", "state 2"),
+        (b"des (0,1,1)\n(0,\xff", b'a', 1025, b",0)", "not-utf8 2"),
+        (b"des (0,1,1)\n(0,", b'a', 4100, b",0)", "line 2"),
     ];
     for (front, byte, count, back, want) in rows {
         let content = long(alloc, front, byte, count, back)?;
@@ -194,5 +196,8 @@ fn counts_the_moves(rt: HostRuntime) -> Result<(), Fail> {
         };
         assert_eq!(rt; got.as_str(), want);
     }
+    let line = long(rt.alloc(), b"(0,", b'a', 1025, b",0)")?;
+    let full = read_move(&line, 5, 1_048_576, 1);
+    assert!(rt; matches!(full, Err(AutError::TooManyMoves)));
     Ok(())
 }
