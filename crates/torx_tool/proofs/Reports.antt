@@ -23,7 +23,7 @@ use Rattle.torx_tool.specs.declared.status.Status.{Status}
 use Rattle.torx_tool.specs.declared.status.Status.TheVariants.{Conforms, Violates, Undecided, Printed, Limit, Usage, TooLong, BadFile, BadLabels, Divergent, NotEnabled, FileFault, OutFault, Memory}
 use Rattle.torx_tool.specs.Words.{Asked, AskFor, AskToComplete}
 use Rattle.torx_tool.specs.Printed.{IsPrintable, text_of}
-use Rattle.torx_tool.specs.Causes.{ReadsAs, Told, Counts, IsPrintableAnswer, IsReportOf, IsDiverging, IsDivergence, IsLacking, IsDisabled, IsEnabledFor, reported, limits_of, Compares, Completes, IsCompletion, IsLooped, IsCheckedFor, IsCompletedFor, IsAnswer}
+use Rattle.torx_tool.specs.Causes.{ReadsAs, Told, Counts, IsPrintableAnswer, IsReportOf, IsDiverging, IsDivergence, IsLacking, IsNotEnabled, IsEnabledFor, reported, limits_of, Compares, Completes, IsCompletion, IsLooped, IsCheckedFor, IsCompletedFor, IsAnswer}
 
 printable_item : (s : System) (n : ℕ) (x : Item) → label_count s ≡ n → IsItemOf s x → IsPrintable n x
 printable_item s n (Input a) e h = omega arith
@@ -61,7 +61,7 @@ report_of asked texts s i answer status text both enabled decided (inr (is, says
 
 -- the report of a comparison is the answer of `check` for the raw systems
 pub compares : (asked : Asked) (spec imp : RawSystem) (a : Alphabet) (s i : System) (status : Status) (text : List ℕ) → IsAlphabetOf Prefix (spec ∷ imp ∷ []) a →
-    AreSystemsFor a (spec ∷ imp ∷ []) (s ∷ i ∷ []) → (status ≡ Memory) ⊎ (IsDivergence asked s i status text ⊎ IsDisabled asked a.texts s i status text ⊎ IsReportOf asked a.texts s i status text) → Compares asked spec imp status text
+    AreSystemsFor a (spec ∷ imp ∷ []) (s ∷ i ∷ []) → (status ≡ Memory) ⊎ (IsDivergence asked s i status text ⊎ IsNotEnabled asked a.texts s i status text ⊎ IsReportOf asked a.texts s i status text) → Compares asked spec imp status text
 compares asked spec imp a s i status text alphabet systems (inl out) = rw out tt
 compares asked spec imp a s i status text alphabet systems (inr (inl (found, says))) = go status found says
   where

@@ -1,5 +1,5 @@
 -- Why a run answers what it answers.
-use Rattle.std.specs.Prelude.{◌≡◌, true, ℕ, ◌^◌, ◌<◌, All, List, [], ◌∷◌, length, Option, ◌⊎◌}
+use Rattle.std.specs.Prelude.{◌≡◌, true, ℕ, ◌^◌, ◌<◌, ◌≤◌, All, List, [], ◌∷◌, length, Option, ◌⊎◌}
 use Rattle.std.specs.Option.{IfSome}
 use Rattle.lts_base.specs.declared.sorting.Rule.TheVariants.{Prefix}
 use Rattle.lts_base.specs.System.{System}
@@ -34,17 +34,17 @@ Told = List ℕ → Option (List ℕ)
 abbrev pub Counts : Type 0
 Counts = List ℕ → ℕ
 
--- the file of this name is refused: reading it failed, it is too long, or it isn't in its grammar
+-- the file of this name is refused: reading it failed, it is too long, or it isn't, and isn't in its grammar
 abbrev pub RefusesFile : Told → Counts → Counts → List ℕ → Status → Type 0
 RefusesFile content before after name (FileFault named) = (named ≡ name) × Rose (before name) (after name)
 RefusesFile content before after name (TooLong named) = (named ≡ name) × IfSome (content name) (λ c. 67108864 < length c)
-RefusesFile content before after name (BadFile named (Aut error)) = (named ≡ name) × IfSome (content name) (λ c. RefusesAut c error)
+RefusesFile content before after name (BadFile named (Aut error)) = (named ≡ name) × IfSome (content name) (λ c. (length c ≤ 67108864) × RefusesAut c error)
 RefusesFile content before after name Memory = Unit {0}
 RefusesFile content before after name other = ⊥
 
--- the file of this name is read as this raw system, where its content is told
+-- the file of this name is within the limit of bytes and is read as this raw system, where its content is told
 abbrev pub ReadsAs : Told → List ℕ → RawSystem → Type 0
-ReadsAs content name raw = IfSome (content name) (λ c. IsAut c raw)
+ReadsAs content name raw = IfSome (content name) (λ c. (length c ≤ 67108864) × IsAut c raw)
 
 -- one of the two files is refused: the specification; or else it reads, and the implementation is refused
 abbrev pub RefusesFiles : Told → Counts → Counts → Asked → Status → Type 0
@@ -87,14 +87,14 @@ abbrev pub IsDivergence : Asked → System → System → Status → List ℕ �
 IsDivergence asked s i status text = IsDiverging asked s i status × (text ≡ text_of [] status)
 
 -- this is the report that the systems are convergent and the implementation isn't input-enabled
-abbrev pub IsDisabled : Asked → List (List ℕ) → System → System → Status → List ℕ → Type 0
-IsDisabled asked texts s i status text = IsConvergent s × IsConvergent i × IsLacking asked i status × (text ≡ text_of texts status)
+abbrev pub IsNotEnabled : Asked → List (List ℕ) → System → System → Status → List ℕ → Type 0
+IsNotEnabled asked texts s i status text = IsConvergent s × IsConvergent i × IsLacking asked i status × (text ≡ text_of texts status)
 
 -- over one alphabet for both, with labels sorted by their first bytes, this is the right answer for these two systems, the
 -- specification first, and this is its text
 abbrev pub IsComparison : Asked → RawSystem → RawSystem → Status → List ℕ → Type 0
 IsComparison asked spec imp status text = (a : Alphabet) × (s : System) × (i : System) × IsAlphabetOf Prefix (spec ∷ imp ∷ []) a ×
-    AreSystemsFor a (spec ∷ imp ∷ []) (s ∷ i ∷ []) × (IsDivergence asked s i status text ⊎ IsDisabled asked a.texts s i status text ⊎ IsReportOf asked a.texts s i status text)
+    AreSystemsFor a (spec ∷ imp ∷ []) (s ∷ i ∷ []) × (IsDivergence asked s i status text ⊎ IsNotEnabled asked a.texts s i status text ⊎ IsReportOf asked a.texts s i status text)
 
 -- what `check` answers for the raw systems of its two files
 abbrev pub Compares : Asked → RawSystem → RawSystem → Status → List ℕ → Type 0
@@ -113,7 +113,7 @@ IsPrintableAnswer n (Related relation) = length relation.pairs < 2 ^ 32
 IsPrintableAnswer n (Broken trace shown) = All (IsPrintable n) trace × IsPrintable n shown
 IsPrintableAnswer n (Cut what reached depth) = Unit {0}
 
--- a refusal that no earlier step of a command made, and its text; or memory ran out
+-- a refusal that has its cause, and its text
 abbrev pub IsRefused : (Status → Type 0) → Status → List ℕ → Type 0
 IsRefused cause status text = cause status × (text ≡ text_of [] status)
 
@@ -125,7 +125,7 @@ IsCheckedFor content before after asked status text = IsRefused (RefusesFiles co
 
 -- this is the report on the convergent system over the alphabet: it is completed and printed, or there would be too many moves
 abbrev pub IsLooped : Alphabet → System → Status → List ℕ → Type 0
-IsLooped a s Printed text = (t : System) × IsAngelic s t × (text ≡ printed a t)
+IsLooped a s Printed text = (t : System) × IsAngelic s t × (length t.moves ≤ 1048576) × (text ≡ printed a t)
 IsLooped a s (Limit Moves reached) text = (reached ≡ 1048577) × RefusesAngelic s TooManyMoves × (text ≡ text_of [] (Limit Moves reached))
 IsLooped a s other text = ⊥
 

@@ -7,8 +7,8 @@ use Rattle.text_scan.specs.Decimal.{IsDecimal}
 use Rattle.torx_tool.specs.declared.words.UsageKind.{UsageKind}
 use Rattle.torx_tool.specs.declared.words.UsageKind.TheVariants.{NoCommand, UnknownCommand, Words, Value}
 
--- what `check` is asked for: the conformance relation, whether the implementation has to be input-enabled, the most pairs, the most members of the sets of each side, and the names
--- of the two files
+-- what `check` is asked for: the conformance relation, whether the implementation has to be input-enabled, the most pairs,
+-- the most members of the sets of each side, and the names of the two files
 pub record Asked : Type 0 where
   pub mode : Mode
   pub enabled : Bool

@@ -5,7 +5,7 @@ ghost use Rattle.lts_base.specs.Shape.{IsConvergent};
 ghost use Rattle.lts_shape.specs.Inputs.{IsFirstMissing};
 ghost use Rattle.torx_tool.specs.Printed.{text_of};
 ghost use Rattle.torx_tool.specs.Named.{asked_from};
-ghost use Rattle.torx_tool.specs.Causes.{Compares, reported, IsPrintableAnswer, IsReportOf, IsDiverging, IsDivergence, IsEnabledFor, IsDisabled};
+ghost use Rattle.torx_tool.specs.Causes.{Compares, reported, IsPrintableAnswer, IsReportOf, IsDiverging, IsDivergence, IsEnabledFor, IsNotEnabled};
 
 use crate::decision::decision;
 use crate::print::{conformance, cut, not_enabled, violation};
@@ -44,7 +44,7 @@ fn decided(alloc: Global, request: &Request<'_>, labels: &Labels, spec: &Lts, im
     requires members { request.now.members ≤ 33554432 }
     requires spec { IsOver labels.now spec.now }
     requires imp { IsOver labels.now imp.now }
-    ensures { (result.status ≡ Status.Memory) ⊎ (IsDivergence (asked_from request.now) spec.now imp.now result.status result.text ⊎ IsDisabled (asked_from request.now) labels.now.texts spec.now imp.now result.status result.text ⊎ IsReportOf (asked_from request.now) labels.now.texts spec.now imp.now result.status result.text) }
+    ensures { (result.status ≡ Status.Memory) ⊎ (IsDivergence (asked_from request.now) spec.now imp.now result.status result.text ⊎ IsNotEnabled (asked_from request.now) labels.now.texts spec.now imp.now result.status result.text ⊎ IsReportOf (asked_from request.now) labels.now.texts spec.now imp.now result.status result.text) }
 {
     match divergence(alloc, request, spec, imp) {
         Ok(None) => convergent(alloc, request, labels, spec, imp),
@@ -85,12 +85,12 @@ fn convergent(
     requires spec { IsOver labels.now spec.now }
     requires imp { IsOver labels.now imp.now }
     requires convergent { IsConvergent spec.now × IsConvergent imp.now }
-    ensures { (result.status ≡ Status.Memory) ⊎ (IsDisabled (asked_from request.now) labels.now.texts spec.now imp.now result.status result.text ⊎ IsReportOf (asked_from request.now) labels.now.texts spec.now imp.now result.status result.text) }
+    ensures { (result.status ≡ Status.Memory) ⊎ (IsNotEnabled (asked_from request.now) labels.now.texts spec.now imp.now result.status result.text ⊎ IsReportOf (asked_from request.now) labels.now.texts spec.now imp.now result.status result.text) }
 {
     let _ = labels.count();
     match lacking(alloc, request, imp) {
         Ok(None) => settled(alloc, request, labels, spec, imp),
-        Ok(Some((state, label))) => disabled(alloc, request, labels, state, label),
+        Ok(Some((state, label))) => lacking_report(alloc, request, labels, state, label),
         Err(_) => no_memory(alloc),
     }
 }
@@ -106,18 +106,24 @@ fn lacking(alloc: Global, request: &Request<'_>, imp: &Lts) -> Result<Option<(u3
 }
 
 /// The report that the implementation lacks an input.
-fn disabled(alloc: Global, request: &Request<'_>, labels: &Labels, state: u32, label: u32) -> Report
+fn lacking_report(
+    alloc: Global,
+    request: &Request<'_>,
+    labels: &Labels,
+    state: u32,
+    label: u32,
+) -> Report
     requires { label < length labels.now.texts }
     ensures { (result.status ≡ Status.Memory) ⊎ ((result.status ≡ Status.NotEnabled request.now.imp.now state label) × (result.text ≡ text_of labels.now.texts result.status)) }
 {
     let name = request.imp.as_bytes();
-    match disabled_report(alloc, labels, name, state, label) {
+    match report_not_enabled(alloc, labels, name, state, label) {
         Ok(report) => report,
         Err(_) => no_memory(alloc),
     }
 }
 
-fn disabled_report(
+fn report_not_enabled(
     alloc: Global,
     labels: &Labels,
     name: &[u8],

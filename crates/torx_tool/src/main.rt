@@ -15,14 +15,23 @@ mod words;
 
 use crate::run::run;
 use crate::status::Status;
-use edge_io::{HostFiles, HostSink};
+use edge_io::{HostFiles, HostSink, Sink, put_all};
 use std::process::ExitCode;
 use std::{env, io};
 
+/// The answer to arguments that aren't UTF-8.
+fn no_text<S: Sink>(out: &mut S) -> ExitCode {
+    match put_all(out, b"usage words\n") {
+        Ok(()) => ExitCode::from(3),
+        Err(_) => ExitCode::from(Status::OutFault.code()),
+    }
+}
+
 fn main(rt: HostRuntime) -> ExitCode {
     let mut words = Vec::new(rt.alloc());
+    let mut out = HostSink::new(io::writer(&rt));
     let Ok(arguments) = env::args(&rt) else {
-        return ExitCode::from(3);
+        return no_text(&mut out);
     };
     for word in arguments.skip(1) {
         if words.push(word).is_err() {
@@ -30,7 +39,6 @@ fn main(rt: HostRuntime) -> ExitCode {
         }
     }
     let mut files = HostFiles::new(&rt);
-    let mut out = HostSink::new(io::writer(&rt));
     let status = run(rt.alloc(), &words, &mut files, &mut out);
     ExitCode::from(status.code())
 }
