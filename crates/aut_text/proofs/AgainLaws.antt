@@ -155,20 +155,23 @@ printed_is_aut a s r alphabet over system writable fits says =
       count = moves;
     }
 
--- the labels that a rule has sorted are writable, since it sorts none that is reserved
-pub AreWritable-sorted : (rule : Rule) (raws : List RawSystem) (a : Alphabet) → IsAlphabetOf rule raws a → AreWritable a.texts
-AreWritable-sorted rule raws a is k d below = go (get_or a.texts k d) (is.each k d below)
+-- a label that a rule lets through is writable, since none that is reserved is let through
+pub good_writable : (rule : Rule) (text : List ℕ) → IsGoodLabel rule text → IsWritable text
+good_writable rule text good =
+    let (no_i, no_tau) = apart (bytes_eq text (codes "delta")) (bytes_eq text (codes "i")) (bytes_eq text (codes "tau")) (good.free) in
+    record { no_i = no_i; no_tau = no_tau }
   where
     apart : (x y z : Bool) → (x || y || z) ≡ false → (y ≡ false) × (z ≡ false)
     apart true y z e = absurd (false≢true (sym e))
     apart false true z e = absurd (false≢true (sym e))
     apart false false z e = (refl, e)
 
+-- the labels that a rule has sorted are writable
+pub AreWritable-sorted : (rule : Rule) (raws : List RawSystem) (a : Alphabet) → IsAlphabetOf rule raws a → AreWritable a.texts
+AreWritable-sorted rule raws a is k d below = go (get_or a.texts k d) (is.each k d below)
+  where
     go : (text : List ℕ) → Contains (all_labels raws) text → IsWritable text
-    go text (j, inside, at) =
-        let good : IsGoodLabel rule text = subst (IsGoodLabel rule) at (is.good j text inside) in
-        let (no_i, no_tau) = apart (bytes_eq text (codes "delta")) (bytes_eq text (codes "i")) (bytes_eq text (codes "tau")) (good.free) in
-        record { no_i = no_i; no_tau = no_tau }
+    go text (j, inside, at) = good_writable rule text (subst (IsGoodLabel rule) at (is.good j text inside))
 
 -- some system of a file says what the system says: the one with the alphabet's labels
 pub says_itself : (a : Alphabet) (s : System) → (r : RawSystem) × Says a s r

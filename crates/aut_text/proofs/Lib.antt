@@ -8,3 +8,4 @@ pub mod OnceLaws
 pub mod FaultLaws
 pub mod SpellingLaws
 pub mod AgainLaws
+pub mod SplitLaws

@@ -1,13 +1,18 @@
 -- The text of a system as an Aldebaran file.
-use Rattle.std.specs.Prelude.{◌≡◌, ℕ, ◌≤◌, false, List, ◌++◌, length, map, All, Option, Some, None, codes, decimal}
+use Rattle.std.specs.Prelude.{◌≡◌, ℕ, ◌<◌, ◌≤◌, false, List, [], ◌∷◌, ◌++◌, length, map, All, Option, Some, None, codes, decimal, nat_lt}
 use Rattle.std.specs.List.{flat_map}
 use Rattle.std.specs.Str.{bytes_eq}
 use Rattle.lts_base.specs.declared.action.Act.{Act}
 use Rattle.lts_base.specs.declared.action.Act.TheVariants.{Tau, Label}
 use Rattle.lts_base.specs.declared.action.Move.{Move}
-use Rattle.lts_base.specs.System.{System}
+use Rattle.lts_base.specs.declared.sorting.Rule.{Rule}
+use Rattle.lts_base.specs.declared.sorting.SplitError.{SplitError}
+use Rattle.lts_base.specs.declared.sorting.SplitError.TheVariants.{Memory}
+use Rattle.lts_base.specs.System.{System, IsSystem}
 use Rattle.lts_base.specs.Raw.{RawSystem}
 use Rattle.lts_base.specs.Alphabet.{Alphabet, text_at}
+use Rattle.lts_base.specs.Built.{move_at}
+use Rattle.lts_base.specs.Sorting.{side_of, IsGoodLabel, RefusesSplit, IsAlphabetOf, AreSystemsFor}
 use Rattle.aut_text.specs.Parts.{NamedMove}
 use Rattle.aut_text.specs.Grammar.{has_moves}
 
@@ -61,3 +66,20 @@ AreWritable texts = All IsWritable texts
 pub record FitsFile (s : System) : Type 0 where
   pub states : s.states ≤ 65536
   pub moves : length s.moves ≤ 1048576
+
+-- the system's moves carry every label of the alphabet
+abbrev pub UsesAll : Alphabet → System → Type 0
+UsesAll a s = (k : ℕ) → k < length a.texts → (j : ℕ) × (j < length s.moves) × ((move_at s.moves j).act ≡ Label k)
+
+-- the rule lets each label of the alphabet through, and sorts exactly the alphabet's inputs to the inputs
+pub record IsSortedBy (rule : Rule) (a : Alphabet) : Type 0 where
+  pub good : All (IsGoodLabel rule) a.texts
+  pub sides : (k : ℕ) → k < length a.texts → side_of rule (text_at a.texts k) ≡ Some (nat_lt k a.inputs)
+
+-- split by the rule, the system of a file is refused for want of memory alone; it gives this alphabet and this system,
+-- and no others
+pub record SplitsInto (rule : Rule) (r : RawSystem) (a : Alphabet) (s : System) : Type 0 where
+  pub refused : (e : SplitError) → RefusesSplit rule (r ∷ []) e → e ≡ Memory
+  pub alphabet : IsAlphabetOf rule (r ∷ []) a
+  pub systems : AreSystemsFor a (r ∷ []) (s ∷ [])
+  pub only : (b : Alphabet) (t : System) → IsAlphabetOf rule (r ∷ []) b → AreSystemsFor b (r ∷ []) (t ∷ []) → IsSystem t → (b ≡ a) × (t ≡ s)

@@ -7,3 +7,6 @@ pub mod DistinctLaws
 pub mod AllowedLaws
 pub mod LabelLaws
 pub mod SortingLaws
+pub mod UniqueLaws
+pub mod SortedLaws
+pub mod PermutedLaws

@@ -1,7 +1,7 @@
 -- What a system is, and when a state is stable and quiet.
 -- Tretmans, "Model Based Testing with Labelled Transition Systems" (2008), labelled transition systems with inputs and
 -- outputs, and quiescence.
-use Rattle.std.specs.Prelude.{◌≡◌, ℕ, ◌+◌, ◌^◌, ◌<◌, ◌≤◌, List, All, Contains, Bool, ◌==◌}
+use Rattle.std.specs.Prelude.{◌≡◌, ℕ, ◌+◌, ◌^◌, ◌<◌, ◌≤◌, List, length, All, Contains, Bool, ◌==◌, ◌⊎◌, slice_index_or as get_or}
 use Rattle.lts_base.specs.declared.action.Act.{Act}
 use Rattle.lts_base.specs.declared.action.Act.TheVariants.{Tau, Label}
 use Rattle.lts_base.specs.declared.action.Move.{Move}
@@ -31,12 +31,27 @@ pub record IsMoveOf (states n : ℕ) (m : Move) : Type 0 where
   pub to : m.to < states
   pub act : IsActOf n m.act
 
--- the start is a state, each move stays within the states and the labels, and there are at most 1,024 labels
+-- the place of what a move carries: Tau comes first, and then the labels by their numbers
+abbrev pub act_place : Act → ℕ
+act_place Tau = 0
+act_place (Label a) = a + 1
+
+-- m is n or comes before it: by the state that it leaves, then by what it carries, then by the state that it leads to
+abbrev pub IsMoveAtMost : Move → Move → Type 0
+IsMoveAtMost m n = (m.from < n.from) ⊎ ((m.from ≡ n.from) × ((act_place m.act < act_place n.act) ⊎ ((act_place m.act ≡ act_place n.act) × (m.to ≤ n.to))))
+
+-- each move comes before every later one or is the same (d would be read past the end, and never is)
+abbrev pub AreSorted : List Move → Type 0
+AreSorted moves = (j k : ℕ) (d : Move) → j < k → k < length moves → IsMoveAtMost (get_or moves j d) (get_or moves k d)
+
+-- the start is a state, each move stays within the states and the labels, there are at most 1,024 labels, and the moves
+-- are sorted
 pub record IsSystem (s : System) : Type 0 where
   pub start : s.start < s.states
   pub states : s.states < 2 ^ 32
   pub few : label_count s ≤ 1024
   pub moves : All (IsMoveOf s.states (label_count s)) s.moves
+  pub sorted : AreSorted s.moves
 
 -- a move with this leads from p to q
 abbrev pub HasMove : System → ℕ → Act → ℕ → Type 0

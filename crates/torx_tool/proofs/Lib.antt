@@ -1,2 +1,6 @@
 mod Reports
 mod Openings
+mod TraceLaws
+mod OfferLaws
+mod WorldLaws
+mod RunLaws

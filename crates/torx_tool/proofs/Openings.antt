@@ -14,7 +14,7 @@ use Rattle.walk_core.specs.declared.walk.WalkError.TheVariants.{Full}
 use Rattle.walk_core.specs.Walked.{Walked, IsFresh, set_at}
 use Rattle.walk_core.specs.Refused.{RefusesOpening}
 use Rattle.conf_decide.specs.declared.answer.Answer.TheVariants.{Undecided}
-use Rattle.torx_tool.specs.Words.{Asked}
+use Rattle.torx_words.specs.Asked.{AskedCheck}
 use Rattle.torx_tool.specs.Causes.{limits_of}
 use Rattle.conf_decide.specs.declared.answer.What.TheVariants.{ImpMembers, SpecMembers}
 use Rattle.conf_decide.specs.Decided.{IsCut, IsDecided}
@@ -74,7 +74,7 @@ spec_opening_cut mode limits i s ps qs left right within over = record {
 }
 
 -- no walk of the implementation begins, so the decision is cut at the opening pair
-pub imp_refused : (asked : Asked) (i s : System) (reached : ℕ) (qs : List ℕ) → RefusesOpening i asked.members (Full reached) → IsSetAfter s [] qs →
+pub imp_refused : (asked : AskedCheck) (i s : System) (reached : ℕ) (qs : List ℕ) → RefusesOpening i asked.members (Full reached) → IsSetAfter s [] qs →
     IsDecided asked.mode (limits_of asked) i s (Undecided ImpMembers reached 0)
 imp_refused asked i s reached qs (ps, left, e, over) right = (
   record { left = ps; right = qs } ∷ [],
@@ -84,7 +84,7 @@ imp_refused asked i s reached qs (ps, left, e, over) right = (
 )
 
 -- a walk of the implementation begins, and none of the specification
-pub spec_refused : (asked : Asked) (w : Walked) (i s : System) (reached : ℕ) → IsFresh w → w.system ≡ i → w.limit ≡ asked.members → RefusesOpening s asked.members (Full reached) →
+pub spec_refused : (asked : AskedCheck) (w : Walked) (i s : System) (reached : ℕ) → IsFresh w → w.system ≡ i → w.limit ≡ asked.members → RefusesOpening s asked.members (Full reached) →
     IsDecided asked.mode (limits_of asked) i s (Undecided SpecMembers reached 0)
 spec_refused asked w i s reached fresh of limit (qs, right, e, over) =
     let left : IsSetAfter i [] (set_at w.sets 0) = subst (λ (t : System). IsSetAfter t [] (set_at w.sets 0)) of fresh.opening in

@@ -1,4 +1,3 @@
-pub mod Words
-pub mod Named
 pub mod Printed
+pub mod Offered
 pub mod Causes

@@ -10,14 +10,16 @@ use Rattle.aut_text.specs.declared.error.AutError.{AutError}
 use Rattle.aut_text.specs.declared.error.AutError.TheVariants.{Header, Line, State, Count, LabelLong, NotUtf8, TooManyStates, TooManyMoves, Memory as NoRoomForFile}
 use Rattle.conf_decide.specs.declared.answer.What.{What}
 use Rattle.conf_decide.specs.declared.answer.What.TheVariants.{Pairs, ImpMembers, SpecMembers}
-use Rattle.torx_tool.specs.declared.words.UsageKind.{UsageKind}
-use Rattle.torx_tool.specs.declared.words.UsageKind.TheVariants.{NoCommand, UnknownCommand, Words, Value}
+use Rattle.text_scan.specs.declared.error.LinesError.{LinesError}
+use Rattle.text_scan.specs.declared.error.LinesError.TheVariants.{Line as ListLine, LabelLong as ListLabelLong, NotUtf8 as ListNotUtf8, Memory as NoRoomForList}
+use Rattle.torx_words.specs.declared.kind.UsageKind.{UsageKind}
+use Rattle.torx_words.specs.declared.kind.UsageKind.TheVariants.{NoCommand, UnknownCommand, Words, Value, Clash}
 use Rattle.torx_tool.specs.declared.status.LimitWhat.{LimitWhat}
 use Rattle.torx_tool.specs.declared.status.LimitWhat.TheVariants.{Moves}
 use Rattle.torx_tool.specs.declared.status.FileError.{FileError}
-use Rattle.torx_tool.specs.declared.status.FileError.TheVariants.{Aut}
+use Rattle.torx_tool.specs.declared.status.FileError.TheVariants.{Aut, Lines, UnknownLabel}
 use Rattle.torx_tool.specs.declared.status.Status.{Status}
-use Rattle.torx_tool.specs.declared.status.Status.TheVariants.{Conforms, Violates, Undecided, Printed, Limit, Usage, TooLong, BadFile, BadLabels, Divergent, NotEnabled, FileFault, OutFault, Memory}
+use Rattle.torx_tool.specs.declared.status.Status.TheVariants.{Conforms, Violates, Undecided, Printed, Absent, Limit, Usage, TooLong, BadFile, BadLabels, Divergent, NotEnabled, FileFault, OutFault, Memory}
 
 -- the exit status of each answer
 abbrev pub code_of : Status → ℕ
@@ -25,6 +27,7 @@ code_of (Conforms pairs) = 0
 code_of (Violates trace shown) = 1
 code_of (Undecided what reached depth) = 2
 code_of Printed = 0
+code_of (Absent place) = 1
 code_of (Limit what reached) = 2
 code_of (Usage kind) = 3
 code_of (TooLong name) = 4
@@ -46,9 +49,9 @@ item_text texts (Input a) = text_at texts a
 item_text texts (Output a) = text_at texts a
 item_text texts Delta = codes "delta"
 
--- a trace: a line for each item
-abbrev pub trace_text : List (List ℕ) → List Item → List ℕ
-trace_text texts trace = flat_map (λ (x : Item). line (codes "after ") (item_text texts x)) trace
+-- items: a line for each, which begins with this front
+abbrev pub items_text : List ℕ → List (List ℕ) → List Item → List ℕ
+items_text front texts items = flat_map (λ (x : Item). line front (item_text texts x)) items
 
 abbrev pub what_text : What → List ℕ
 what_text Pairs = codes "undecided pairs="
@@ -63,6 +66,7 @@ kind_text NoCommand = codes "no-command"
 kind_text UnknownCommand = codes "unknown-command"
 kind_text Words = codes "words"
 kind_text Value = codes "value"
+kind_text Clash = codes "clash"
 
 abbrev pub aut_text : AutError → List ℕ
 aut_text Header = codes "header"
@@ -75,8 +79,16 @@ aut_text TooManyStates = codes "too-many-states"
 aut_text TooManyMoves = codes "too-many-moves"
 aut_text NoRoomForFile = []
 
+abbrev pub list_text : LinesError → List ℕ
+list_text (ListLine n) = codes "line " ++ decimal n
+list_text (ListLabelLong n) = codes "label-long " ++ decimal n
+list_text (ListNotUtf8 n) = codes "not-utf8 " ++ decimal n
+list_text NoRoomForList = []
+
 abbrev pub error_text : FileError → List ℕ
 error_text (Aut error) = aut_text error
+error_text (Lines error) = list_text error
+error_text (UnknownLabel n) = codes "unknown-label " ++ decimal n
 
 abbrev pub labels_text : SplitError → List ℕ
 labels_text (Unsorted told) = line (codes "labels unsorted ") told
@@ -91,9 +103,10 @@ states_text states = flat_map (λ (q : ℕ). codes " " ++ decimal q) states
 -- the whole text of an answer, by the texts of the labels; what is printed for its own sake has no such text
 abbrev pub text_of : List (List ℕ) → Status → List ℕ
 text_of texts (Conforms pairs) = line (codes "conforms pairs=") (decimal pairs)
-text_of texts (Violates trace shown) = line (codes "violates") [] ++ (trace_text texts trace ++ line (codes "shows ") (item_text texts shown))
+text_of texts (Violates trace shown) = line (codes "violates") [] ++ (items_text (codes "after ") texts trace ++ line (codes "shows ") (item_text texts shown))
 text_of texts (Undecided what reached depth) = what_text what ++ (decimal reached ++ line (codes " depth=") (decimal depth))
 text_of texts Printed = []
+text_of texts (Absent place) = line (codes "absent ") (decimal place)
 text_of texts (Limit what reached) = line (limit_text what) (decimal reached)
 text_of texts (Usage kind) = line (codes "usage ") (kind_text kind)
 text_of texts (TooLong name) = line (codes "too-long ") name

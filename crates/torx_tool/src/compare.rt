@@ -1,50 +1,31 @@
-//! `check`: the two systems over one alphabet, the decision, and its report.
-ghost use Rattle.std.specs.Prelude.{◌≡◌, ◌⊎◌, ◌-◌, ◌<◌, ◌≤◌, List, [], ◌∷◌, length, All, IfOk, MatchOption, Some, true};
+//! `check`: the decision on two systems over one alphabet, and its report.
+ghost use Rattle.std.specs.Prelude.{◌≡◌, ◌⊎◌, ◌-◌, ◌<◌, ◌≤◌, List, [], ◌∷◌, length, All, IfOk, IfSome, MatchOption, Some, true};
 ghost use Rattle.lts_base.specs.Alphabet.{IsOver};
 ghost use Rattle.lts_base.specs.Shape.{IsConvergent};
 ghost use Rattle.lts_shape.specs.Inputs.{IsFirstMissing};
-ghost use Rattle.torx_tool.specs.Printed.{text_of};
-ghost use Rattle.torx_tool.specs.Named.{asked_from};
-ghost use Rattle.torx_tool.specs.Causes.{Compares, reported, IsPrintableAnswer, IsReportOf, IsDiverging, IsDivergence, IsEnabledFor, IsNotEnabled};
+ghost use Rattle.torx_tool.specs.Printed.{text_of, IsRefusal};
+ghost use Rattle.torx_words.specs.Named.{check_from};
+ghost use Rattle.torx_tool.specs.Causes.{reported, IsPrintableAnswer, IsRefused, IsDiverging, IsComparison, IsDecision, IsEnabledFor, IsNotEnabled};
 
 use crate::decision::decision;
+use crate::diverging::diverging;
 use crate::print::{conformance, cut, not_enabled, violation};
-use crate::report::{Report, divergent, no_memory, refused};
+use crate::report::{Report, no_memory, refused};
 use crate::status::Status;
-use crate::words::Request;
 use conf_decide::Answer;
-use lts_base::{Labels, Listed, Lts, Memory, RawLts, Rule, SplitError, split};
-use lts_shape::{missing_input, tau_cycle};
+use lts_base::{Labels, Listed, Lts, Memory};
+use lts_shape::missing_input;
 use std::alloc::Global;
+use torx_words::Check;
 
-/// What `check` answers for two raw systems.
-pub fn compare(alloc: Global, request: &Request<'_>, spec: RawLts, imp: RawLts) -> Report
-    requires some { 0 < request.now.pairs }
-    requires pairs { request.now.pairs ≤ 200000 }
-    requires members { request.now.members ≤ 33554432 }
-    ensures { Compares (asked_from request.now) spec imp result.status result.text }
-{
-    let raws = [spec, imp];
-    match split(alloc, &raws, &Rule::Prefix) {
-        Ok(both) => {
-            let [spec, imp] = both.systems.as_slice() else {
-                unreachable!()
-            };
-            decided(alloc, request, &both.labels, spec, imp)
-        }
-        Err(SplitError::Memory) => no_memory(alloc),
-        Err(error) => refused(alloc, Status::BadLabels { error }),
-    }
-}
-
-/// The report on two systems over the labels.
-fn decided(alloc: Global, request: &Request<'_>, labels: &Labels, spec: &Lts, imp: &Lts) -> Report
+/// What `check` answers for two systems over the labels.
+pub fn compare(alloc: Global, request: &Check<'_>, labels: &Labels, spec: &Lts, imp: &Lts) -> Report
     requires some { 0 < request.now.pairs }
     requires pairs { request.now.pairs ≤ 200000 }
     requires members { request.now.members ≤ 33554432 }
     requires spec { IsOver labels.now spec.now }
     requires imp { IsOver labels.now imp.now }
-    ensures { (result.status ≡ Status.Memory) ⊎ (IsDivergence (asked_from request.now) spec.now imp.now result.status result.text ⊎ IsNotEnabled (asked_from request.now) labels.now.texts spec.now imp.now result.status result.text ⊎ IsReportOf (asked_from request.now) labels.now.texts spec.now imp.now result.status result.text) }
+    ensures { (result.status ≡ Status.Memory) ⊎ (IsRefused (IsDiverging (request.now.spec.now ∷ request.now.imp.now ∷ []) (spec.now ∷ imp.now ∷ [])) result.status result.text ⊎ (All IsConvergent (spec.now ∷ imp.now ∷ []) × IsComparison (check_from request.now) labels.now (spec.now ∷ imp.now ∷ []) result.status result.text)) }
 {
     match divergence(alloc, request, spec, imp) {
         Ok(None) => convergent(alloc, request, labels, spec, imp),
@@ -56,36 +37,27 @@ fn decided(alloc: Global, request: &Request<'_>, labels: &Labels, spec: &Lts, im
 /// The answer that one of the systems isn't convergent, None where both are.
 fn divergence(
     alloc: Global,
-    request: &Request<'_>,
+    request: &Check<'_>,
     spec: &Lts,
     imp: &Lts,
 ) -> Result<Option<Status>, Memory>
-    ensures { IfOk result (λ found. MatchOption found (IsConvergent spec.now × IsConvergent imp.now) (IsDiverging (asked_from request.now) spec.now imp.now)) }
+    ensures found { IfOk result (λ found. MatchOption found (All IsConvergent (spec.now ∷ imp.now ∷ [])) (IsDiverging (request.now.spec.now ∷ request.now.imp.now ∷ []) (spec.now ∷ imp.now ∷ []))) }
+    ensures refusal { IfOk result (λ found. IfSome found IsRefusal) }
 {
-    if let Some(cycle) = tau_cycle(alloc, spec)? {
-        return Ok(Some(divergent(alloc, request.spec, cycle)?));
+    match diverging(alloc, request.spec, spec)? {
+        Some(status) => Ok(Some(status)),
+        None => diverging(alloc, request.imp, imp),
     }
-    if let Some(cycle) = tau_cycle(alloc, imp)? {
-        return Ok(Some(divergent(alloc, request.imp, cycle)?));
-    }
-    Ok(None)
 }
 
 /// The report on two convergent systems over the labels.
-fn convergent(
-    alloc: Global,
-    request: &Request<'_>,
-    labels: &Labels,
-    spec: &Lts,
-    imp: &Lts,
-) -> Report
+fn convergent(alloc: Global, request: &Check<'_>, labels: &Labels, spec: &Lts, imp: &Lts) -> Report
     requires some { 0 < request.now.pairs }
     requires pairs { request.now.pairs ≤ 200000 }
     requires members { request.now.members ≤ 33554432 }
     requires spec { IsOver labels.now spec.now }
     requires imp { IsOver labels.now imp.now }
-    requires convergent { IsConvergent spec.now × IsConvergent imp.now }
-    ensures { (result.status ≡ Status.Memory) ⊎ (IsNotEnabled (asked_from request.now) labels.now.texts spec.now imp.now result.status result.text ⊎ IsReportOf (asked_from request.now) labels.now.texts spec.now imp.now result.status result.text) }
+    ensures { (result.status ≡ Status.Memory) ⊎ IsComparison (check_from request.now) labels.now (spec.now ∷ imp.now ∷ []) result.status result.text }
 {
     let _ = labels.count();
     match lacking(alloc, request, imp) {
@@ -96,8 +68,8 @@ fn convergent(
 }
 
 /// The first state and input that the implementation lacks, where it has to be input-enabled.
-fn lacking(alloc: Global, request: &Request<'_>, imp: &Lts) -> Result<Option<(u32, u32)>, Memory>
-    ensures { IfOk result (λ found. MatchOption found (IsEnabledFor (asked_from request.now) imp.now) (λ pair. (request.now.enabled ≡ true) × IsFirstMissing imp.now imp.now.inputs pair.0 pair.1)) }
+fn lacking(alloc: Global, request: &Check<'_>, imp: &Lts) -> Result<Option<(u32, u32)>, Memory>
+    ensures { IfOk result (λ found. MatchOption found (IsEnabledFor (check_from request.now) imp.now) (λ pair. (request.now.enabled ≡ true) × IsFirstMissing imp.now imp.now.inputs pair.0 pair.1)) }
 {
     if !request.enabled {
         return Ok(None);
@@ -108,7 +80,7 @@ fn lacking(alloc: Global, request: &Request<'_>, imp: &Lts) -> Result<Option<(u3
 /// The report that the implementation lacks an input.
 fn lacking_report(
     alloc: Global,
-    request: &Request<'_>,
+    request: &Check<'_>,
     labels: &Labels,
     state: u32,
     label: u32,
@@ -142,15 +114,14 @@ fn report_not_enabled(
 }
 
 /// The decision on two systems that are as they have to be, over the labels, and its report.
-fn settled(alloc: Global, request: &Request<'_>, labels: &Labels, spec: &Lts, imp: &Lts) -> Report
+fn settled(alloc: Global, request: &Check<'_>, labels: &Labels, spec: &Lts, imp: &Lts) -> Report
     requires some { 0 < request.now.pairs }
     requires pairs { request.now.pairs ≤ 200000 }
     requires members { request.now.members ≤ 33554432 }
     requires spec { IsOver labels.now spec.now }
     requires imp { IsOver labels.now imp.now }
-    requires convergent { IsConvergent spec.now × IsConvergent imp.now }
-    requires enabled { IsEnabledFor (asked_from request.now) imp.now }
-    ensures { (result.status ≡ Status.Memory) ⊎ IsReportOf (asked_from request.now) labels.now.texts spec.now imp.now result.status result.text }
+    requires enabled { IsEnabledFor (check_from request.now) imp.now }
+    ensures { (result.status ≡ Status.Memory) ⊎ IsDecision (check_from request.now) labels.now.texts spec.now imp.now result.status result.text }
 {
     let _ = labels.count();
     let _ = spec.states();

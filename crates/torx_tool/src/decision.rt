@@ -4,10 +4,9 @@ ghost use Rattle.lts_base.specs.After.{IsSetAfter};
 ghost use Rattle.conf_decide.specs.Decided.{IsDecided, HasAlphabet, limits_of as limits_between};
 ghost use Rattle.walk_core.specs.Walked.{IsFresh};
 ghost use Rattle.walk_core.specs.Refused.{RefusesOpening};
-ghost use Rattle.torx_tool.specs.Named.{asked_from};
+ghost use Rattle.torx_words.specs.Named.{check_from};
 ghost use Rattle.torx_tool.specs.Causes.{limits_of};
 
-use crate::words::Request;
 use conf_decide::decide::decide;
 use conf_decide::{Answer, What};
 use lts_base::{Lts, Memory};
@@ -15,21 +14,17 @@ use state_sets::opening;
 use std::alloc::Global;
 use std::marker::Brand;
 use std::sync::ledger::{Blank, Ledger};
+use torx_words::Check;
 use walk_core::{PlainWalk, Steps, Walk, WalkError};
 
 /// Decides whether `imp` conforms to `spec`.
-pub fn decision(
-    alloc: Global,
-    request: &Request<'_>,
-    spec: &Lts,
-    imp: &Lts,
-) -> Result<Answer, Memory>
+pub fn decision(alloc: Global, request: &Check<'_>, spec: &Lts, imp: &Lts) -> Result<Answer, Memory>
     requires some { 0 < request.now.pairs }
     requires pairs { request.now.pairs ≤ 200000 }
     requires members { request.now.members ≤ 33554432 }
     requires inputs { spec.now.inputs ≡ imp.now.inputs }
     requires outputs { spec.now.outputs ≡ imp.now.outputs }
-    ensures { IfOk result (IsDecided request.now.mode (limits_of (asked_from request.now)) imp.now spec.now) }
+    ensures { IfOk result (IsDecided request.now.mode (limits_of (check_from request.now)) imp.now spec.now) }
 {
     let mut left = match PlainWalk::new(alloc, imp, request.members) {
         Ok(walk) => walk,
@@ -71,13 +66,13 @@ fn at_opening(what: What, reached: u64) -> Answer
 /// the pair that is cut is the specification's opening set.
 fn imp_opening(
     alloc: Global,
-    request: &Request<'_>,
+    request: &Check<'_>,
     spec: &Lts,
     imp: &Lts,
     reached: u64,
 ) -> Result<Answer, Memory>
     requires { RefusesOpening imp.now request.now.members (WalkError.Full reached) }
-    ensures { IfOk result (IsDecided request.now.mode (limits_of (asked_from request.now)) imp.now spec.now) }
+    ensures { IfOk result (IsDecided request.now.mode (limits_of (check_from request.now)) imp.now spec.now) }
 {
     let _opening = opening(alloc, spec)?;
     let _ = imp.states();
@@ -88,7 +83,7 @@ fn imp_opening(
 /// The answer where the specification's opening set alone has too many members, and the
 /// implementation's walk has begun.
 fn spec_opening(
-    request: &Request<'_>,
+    request: &Check<'_>,
     spec: &Lts,
     imp: &Lts,
     left: &PlainWalk<'_>,
@@ -98,7 +93,7 @@ fn spec_opening(
     requires fresh { IsFresh left.now }
     requires system { left.now.system ≡ imp.now }
     requires limit { left.now.limit ≡ request.now.members }
-    ensures { IsDecided request.now.mode (limits_of (asked_from request.now)) imp.now spec.now result }
+    ensures { IsDecided request.now.mode (limits_of (check_from request.now)) imp.now spec.now result }
 {
     let _ = spec.states();
     let _ = imp.states();
@@ -110,7 +105,7 @@ fn spec_opening(
 /// The search over two walks that hold their opening sets alone.
 fn search<L: Ledger>(
     alloc: Global,
-    request: &Request<'_>,
+    request: &Check<'_>,
     left: &mut PlainWalk<'_>,
     right: &mut PlainWalk<'_>,
     inputs: u32,

@@ -4,14 +4,17 @@
 mod compare;
 mod complete;
 mod decision;
+mod diverging;
+mod input;
 mod load;
+mod offers;
 mod print;
 mod report;
 mod run;
 mod status;
 #[cfg(test)]
 mod tests;
-mod words;
+mod trace;
 
 use crate::run::run;
 use crate::status::Status;

@@ -1,14 +1,16 @@
 //! The texts of the answers.
 ghost use Rattle.std.specs.Prelude.{◌≡◌, ◌<◌, ◌++◌, ◌∷◌, List, [], length, All, OnOk, IfOk, codes, decimal, string_bytes};
 ghost use Rattle.lts_base.specs.Alphabet.{text_at};
-ghost use Rattle.torx_tool.specs.Printed.{line, item_text, trace_text, what_text, limit_text, kind_text, aut_text as aut_error_text, states_text, error_text, labels_text, text_of, IsPrintable, IsRefusal};
+ghost use Rattle.torx_tool.specs.Offered.{offers_text as text_of_offers};
+ghost use Rattle.torx_tool.specs.Printed.{line, item_text, items_text, what_text, limit_text, kind_text, aut_text as aut_error_text, states_text, error_text, list_text, labels_text, text_of, IsPrintable, IsRefusal};
 
 use crate::status::{FileError, LimitWhat, Status};
-use crate::words::UsageKind;
 use aut_text::AutError;
 use conf_decide::What;
 use lts_base::{Item, Labels, Listed, SplitError, Text};
 use std::alloc::{AllocError, Global};
+use text_scan::LinesError;
+use torx_words::UsageKind;
 
 /// Appends a line of two pieces.
 fn put_line(text: &mut Vec<u8>, front: &[u8], rest: &[u8]) -> Result<(), AllocError>
@@ -31,13 +33,18 @@ fn item_bytes<'a>(labels: &'a Labels, item: Item) -> &'a [u8]
     }
 }
 
-/// Appends a line for each item of a trace.
-fn put_trace(text: &mut Vec<u8>, labels: &Labels, trace: &[Item]) -> Result<(), AllocError>
-    requires { All (IsPrintable (length labels.now.texts)) trace.now }
-    ensures { OnOk result (text.new.items ≡ text.old.items ++ trace_text labels.now.texts trace.now) }
+/// Appends a line for each item, which begins with the front.
+fn put_items(
+    text: &mut Vec<u8>,
+    front: &[u8],
+    labels: &Labels,
+    items: &[Item],
+) -> Result<(), AllocError>
+    requires { All (IsPrintable (length labels.now.texts)) items.now }
+    ensures { OnOk result (text.new.items ≡ text.old.items ++ items_text front.now labels.now.texts items.now) }
 {
-    'items: for item in trace {
-        put_line(text, b"after ", item_bytes(labels, *item))?;
+    'items: for item in items {
+        put_line(text, front, item_bytes(labels, *item))?;
     }
     Ok(())
 }
@@ -51,11 +58,11 @@ pub fn violation(
 ) -> Result<Text, AllocError>
     requires trace { All (IsPrintable (length labels.now.texts)) trace.now }
     requires shown { IsPrintable (length labels.now.texts) shown }
-    ensures { IfOk result (λ text. text ≡ line (codes "violates") [] ++ (trace_text labels.now.texts trace.now ++ line (codes "shows ") (item_text labels.now.texts shown))) }
+    ensures { IfOk result (λ text. text ≡ line (codes "violates") [] ++ (items_text (codes "after ") labels.now.texts trace.now ++ line (codes "shows ") (item_text labels.now.texts shown))) }
 {
     let mut text = Vec::new(alloc);
     put_line(&mut text, b"violates", b"")?;
-    put_trace(&mut text, labels, trace)?;
+    put_items(&mut text, b"after ", labels, trace)?;
     put_line(&mut text, b"shows ", item_bytes(labels, shown))?;
     Ok(Listed::from_vec(text))
 }
@@ -118,6 +125,7 @@ pub fn usage(alloc: Global, kind: UsageKind) -> Result<Text, AllocError>
         UsageKind::UnknownCommand => one_line(alloc, b"usage ", b"unknown-command"),
         UsageKind::Words => one_line(alloc, b"usage ", b"words"),
         UsageKind::Value => one_line(alloc, b"usage ", b"value"),
+        UsageKind::Clash => one_line(alloc, b"usage ", b"clash"),
     }
 }
 
@@ -147,7 +155,27 @@ pub fn bad_file(alloc: Global, name: &[u8], error: &FileError) -> Result<Text, A
 fn file_error(alloc: Global, error: &FileError) -> Result<String, AllocError>
     ensures { IfOk result (λ text. string_bytes text ≡ error_text error.now) }
 {
-    let FileError::Aut(error) = error;
+    match error {
+        FileError::Aut(error) => aut_error(alloc, error),
+        FileError::Lines(error) => list_error(alloc, error),
+        FileError::UnknownLabel(line) => at_line(alloc, "unknown-label ", *line),
+    }
+}
+
+fn list_error(alloc: Global, error: &LinesError) -> Result<String, AllocError>
+    ensures { IfOk result (λ text. string_bytes text ≡ list_text error.now) }
+{
+    match error {
+        LinesError::Line(line) => at_line(alloc, "line ", *line),
+        LinesError::LabelLong(line) => at_line(alloc, "label-long ", *line),
+        LinesError::NotUtf8(line) => at_line(alloc, "not-utf8 ", *line),
+        LinesError::Memory => Ok(String::new(alloc)),
+    }
+}
+
+fn aut_error(alloc: Global, error: &AutError) -> Result<String, AllocError>
+    ensures { IfOk result (λ text. string_bytes text ≡ aut_error_text error.now) }
+{
     match error {
         AutError::Header => String::from_str(alloc, "header"),
         AutError::Line(line) => at_line(alloc, "line ", *line),
@@ -188,6 +216,34 @@ fn put_states(alloc: Global, text: &mut Vec<u8>, states: &[u32]) -> Result<(), A
     Ok(())
 }
 
+/// The text that a prefix of a trace isn't allowed.
+fn absent(alloc: Global, place: u32) -> Result<Text, AllocError>
+    ensures { IfOk result (λ text. text ≡ line (codes "absent ") (decimal place)) }
+{
+    let number = place.to_string(alloc)?;
+    one_line(alloc, b"absent ", number.as_bytes())
+}
+
+/// The text of a set of states, the items that it shows and the inputs that it allows.
+pub fn offers_text(
+    alloc: Global,
+    labels: &Labels,
+    states: &[u32],
+    shown: &[Item],
+    inputs: &[Item],
+) -> Result<Text, AllocError>
+    requires shown { All (IsPrintable (length labels.now.texts)) shown.now }
+    requires inputs { All (IsPrintable (length labels.now.texts)) inputs.now }
+    ensures { IfOk result (λ text. text ≡ text_of_offers labels.now.texts states.now shown.now inputs.now) }
+{
+    let mut text = Vec::from_slice(alloc, b"states")?;
+    put_states(alloc, &mut text, states)?;
+    text.extend_from_slice(b"\n")?;
+    put_items(&mut text, b"shows ", labels, shown)?;
+    put_items(&mut text, b"input ", labels, inputs)?;
+    Ok(Listed::from_vec(text))
+}
+
 /// The text of a cycle of internal moves.
 fn divergent(alloc: Global, name: &[u8], cycle: &[u32]) -> Result<Text, AllocError>
     ensures { IfOk result (λ text. text ≡ codes "divergent " ++ (name.now ++ (states_text cycle.now ++ 10 ∷ []))) }
@@ -225,6 +281,7 @@ pub fn refusal(alloc: Global, status: &Status) -> Result<Text, AllocError>
     ensures { IfOk result (λ text. text ≡ text_of [] status.now) }
 {
     match status {
+        Status::Absent { place } => absent(alloc, *place),
         Status::Limit { what, reached } => limit(alloc, *what, *reached),
         Status::Usage { kind } => usage(alloc, *kind),
         Status::TooLong { name } => one_line(alloc, b"too-long ", name.as_slice()),

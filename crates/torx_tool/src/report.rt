@@ -1,10 +1,10 @@
 //! An answer with its text.
-ghost use Rattle.std.specs.Prelude.{◌≡◌, [], ◌⊎◌, IfOk};
+ghost use Rattle.std.specs.Prelude.{◌≡◌, [], ◌⊎◌};
 ghost use Rattle.torx_tool.specs.Printed.{text_of, IsRefusal};
 
 use crate::print::refusal;
 use crate::status::Status;
-use lts_base::{Listed, Memory, StateList, Text};
+use lts_base::{Listed, Text};
 use std::alloc::Global;
 
 /// An answer, and what is to be printed for it.
@@ -24,14 +24,6 @@ pub fn no_memory(alloc: Global) -> Report
         status: Status::Memory,
         text: Listed::new(alloc),
     }
-}
-
-/// The answer that the system of the file with this name has a cycle of internal moves.
-pub fn divergent(alloc: Global, name: &str, cycle: StateList) -> Result<Status, Memory>
-    ensures { IfOk result (λ status. status ≡ Status.Divergent name.now cycle) }
-{
-    let name = Listed::from_vec(Vec::from_slice(alloc, name.as_bytes())?);
-    Ok(Status::Divergent { name, cycle })
 }
 
 /// The report of a refusal.

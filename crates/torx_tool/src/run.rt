@@ -1,31 +1,29 @@
 //! The top call: from words and files to what is printed.
 ghost use Rattle.std.specs.Prelude.{◌≡◌, ◌≤◌, ◌<◌, ◌⊎◌, ◌+◌, ℕ, List, [], map, MatchResult, Err, string_bytes};
-ghost use Rattle.edge_io.specs.Outside.{Rose};
-ghost use Rattle.torx_tool.specs.Named.{asked_from};
-ghost use Rattle.torx_tool.specs.Causes.{ReadsAs, RefusesFiles, Compares, IsAnswer, IsCheckedFor, IsCompletedFor, IsRun};
+ghost use Rattle.std.specs.Prelude.{◌∷◌, All, IfErr};
+ghost use Rattle.lts_base.specs.Alphabet.{IsOver};
+ghost use Rattle.lts_base.specs.Shape.{IsConvergent};
+ghost use Rattle.torx_words.specs.Named.{check_from, outs_from, angelic_from};
+ghost use Rattle.torx_tool.specs.Causes.{world, IsRefused, IsDiverging, IsOffer, IsCompletion, IsCheckedFor, IsOfferedFor, IsCompletedFor, IsAnswer, IsRun};
 
 use crate::compare::compare;
-use crate::complete::complete;
-use crate::load::system;
-use crate::report::{Report, refused};
+use crate::complete::completed;
+use crate::diverging::diverging;
+use crate::input::{one_system, two_systems};
+use crate::load::trace;
+use crate::offers::offers;
+use crate::report::{Report, no_memory, refused};
 use crate::status::Status;
-use crate::words::{Command, Request, command_of};
 use edge_io::{Files, Sink, put_all};
-use lts_base::RawLts;
+use lts_base::{Labels, Lts};
 use std::alloc::Global;
-
-/// Both systems of `check`.
-#[derive(Drop)]
-struct Pair {
-    spec: RawLts,
-    imp: RawLts,
-}
+use torx_words::{Angelic, Check, Command, Outs, WordsError, command_of};
 
 /// Does what the words ask for, with these files, and writes the answer's text to `out`.
 pub fn run<F: Files, S: Sink>(alloc: Global, words: &[String], files: &mut F, out: &mut S) -> Status
-    ensures run { IsRun (F.content files.old) (F.faults files.old) (F.faults files.new) (map string_bytes words.now) (S.written out.old) (S.written out.new) (S.faults out.old) (S.faults out.new) result }
-    ensures same { (name : List ℕ) → F.content files.new name ≡ F.content files.old name }
-    ensures later { (name : List ℕ) → F.faults files.old name ≤ F.faults files.new name }
+    ensures run { IsRun (world (F.content files.old) (F.faults files.old) (F.faults files.new)) (map string_bytes words.now) (S.written out.old) (S.written out.new) (S.faults out.old) (S.faults out.new) result }
+    ensures same { (other : List ℕ) → F.content files.new other ≡ F.content files.old other }
+    ensures later { (other : List ℕ) → F.faults files.old other ≤ F.faults files.new other }
 {
     let report = answer(alloc, words, files);
     if let Status::Memory = report.status {
@@ -38,56 +36,120 @@ pub fn run<F: Files, S: Sink>(alloc: Global, words: &[String], files: &mut F, ou
 }
 
 fn answer<F: Files>(alloc: Global, words: &[String], files: &mut F) -> Report
-    ensures answer { IsAnswer (F.content files.old) (F.faults files.old) (F.faults files.new) (map string_bytes words.now) result.status result.text }
-    ensures same { (name : List ℕ) → F.content files.new name ≡ F.content files.old name }
-    ensures later { (name : List ℕ) → F.faults files.old name ≤ F.faults files.new name }
+    ensures answer { IsAnswer (world (F.content files.old) (F.faults files.old) (F.faults files.new)) (map string_bytes words.now) result.status result.text }
+    ensures same { (other : List ℕ) → F.content files.new other ≡ F.content files.old other }
+    ensures later { (other : List ℕ) → F.faults files.old other ≤ F.faults files.new other }
 {
-    match command_of(words) {
+    match command_of(alloc, words) {
         Ok(Command::Check(request)) => check(alloc, files, &request),
-        Ok(Command::Angelic(name)) => completion(alloc, files, name),
-        Err(kind) => refused(alloc, Status::Usage { kind }),
+        Ok(Command::Outs(request)) => outs(alloc, files, &request),
+        Ok(Command::Angelic(request)) => completion(alloc, files, &request),
+        Err(WordsError::Usage(kind)) => refused(alloc, Status::Usage { kind }),
+        Err(WordsError::Memory) => no_memory(alloc),
     }
 }
 
 /// The answer of `check`.
-fn check<F: Files>(alloc: Global, files: &mut F, request: &Request<'_>) -> Report
+fn check<F: Files>(alloc: Global, files: &mut F, request: &Check<'_>) -> Report
     requires some { 0 < request.now.pairs }
     requires pairs { request.now.pairs ≤ 200000 }
     requires members { request.now.members ≤ 33554432 }
-    ensures answer { IsCheckedFor (F.content files.old) (F.faults files.old) (F.faults files.new) (asked_from request.now) result.status result.text }
-    ensures same { (name : List ℕ) → F.content files.new name ≡ F.content files.old name }
-    ensures later { (name : List ℕ) → F.faults files.old name ≤ F.faults files.new name }
+    ensures answer { (result.status ≡ Status.Memory) ⊎ IsCheckedFor (world (F.content files.old) (F.faults files.old) (F.faults files.new)) (check_from request.now) result.status result.text }
+    ensures same { (other : List ℕ) → F.content files.new other ≡ F.content files.old other }
+    ensures later { (other : List ℕ) → F.faults files.old other ≤ F.faults files.new other }
 {
-    match load_both(alloc, files, request) {
-        Ok(pair) => compare(alloc, request, pair.spec, pair.imp),
+    match two_systems(alloc, files, request.spec, request.imp, request.sorting) {
+        Ok(both) => {
+            let [spec, imp] = both.systems.as_slice() else {
+                unreachable!()
+            };
+            compare(alloc, request, &both.labels, spec, imp)
+        }
+        Err(status) => refused(alloc, status),
+    }
+}
+
+/// The answer of `outs`.
+fn outs<F: Files>(alloc: Global, files: &mut F, request: &Outs<'_>) -> Report
+    ensures answer { (result.status ≡ Status.Memory) ⊎ IsOfferedFor (world (F.content files.old) (F.faults files.old) (F.faults files.new)) (outs_from request.now) result.status result.text }
+    ensures same { (other : List ℕ) → F.content files.new other ≡ F.content files.old other }
+    ensures later { (other : List ℕ) → F.faults files.old other ≤ F.faults files.new other }
+{
+    match one_system(alloc, files, request.spec, request.sorting) {
+        Ok(one) => {
+            let [lts] = one.systems.as_slice() else {
+                unreachable!()
+            };
+            outs_of(alloc, files, request, &one.labels, lts)
+        }
+        Err(status) => refused(alloc, status),
+    }
+}
+
+/// The answer of `outs` for a system over the labels.
+fn outs_of<F: Files>(
+    alloc: Global,
+    files: &mut F,
+    request: &Outs<'_>,
+    labels: &Labels,
+    lts: &Lts,
+) -> Report
+    requires { IsOver labels.now lts.now }
+    ensures answer { (result.status ≡ Status.Memory) ⊎ (IsRefused (IsDiverging (request.now.spec.now ∷ []) (lts.now ∷ [])) result.status result.text ⊎ (All IsConvergent (lts.now ∷ []) × IsOffer (world (F.content files.old) (F.faults files.old) (F.faults files.new)) (outs_from request.now) labels.now (lts.now ∷ []) result.status result.text)) }
+    ensures same { (other : List ℕ) → F.content files.new other ≡ F.content files.old other }
+    ensures later { (other : List ℕ) → F.faults files.old other ≤ F.faults files.new other }
+{
+    match diverging(alloc, request.spec, lts) {
+        Ok(None) => after_trace(alloc, files, request, labels, lts),
+        Ok(Some(status)) => refused(alloc, status),
+        Err(_) => no_memory(alloc),
+    }
+}
+
+/// The answer of `outs` for a convergent system.
+fn after_trace<F: Files>(
+    alloc: Global,
+    files: &mut F,
+    request: &Outs<'_>,
+    labels: &Labels,
+    lts: &Lts,
+) -> Report
+    requires { IsOver labels.now lts.now }
+    ensures answer { (result.status ≡ Status.Memory) ⊎ IsOffer (world (F.content files.old) (F.faults files.old) (F.faults files.new)) (outs_from request.now) labels.now (lts.now ∷ []) result.status result.text }
+    ensures same { (other : List ℕ) → F.content files.new other ≡ F.content files.old other }
+    ensures later { (other : List ℕ) → F.faults files.old other ≤ F.faults files.new other }
+{
+    match trace(alloc, files, labels, request.trace) {
+        Ok(trace) => offers(alloc, request.mode, labels, lts, trace.as_slice()),
         Err(status) => refused(alloc, status),
     }
 }
 
 /// The answer of `angelic`.
-fn completion<F: Files>(alloc: Global, files: &mut F, name: &str) -> Report
-    ensures answer { IsCompletedFor (F.content files.old) (F.faults files.old) (F.faults files.new) name.now result.status result.text }
+fn completion<F: Files>(alloc: Global, files: &mut F, request: &Angelic<'_>) -> Report
+    ensures answer { (result.status ≡ Status.Memory) ⊎ IsCompletedFor (world (F.content files.old) (F.faults files.old) (F.faults files.new)) (angelic_from request.now) result.status result.text }
     ensures same { (other : List ℕ) → F.content files.new other ≡ F.content files.old other }
     ensures later { (other : List ℕ) → F.faults files.old other ≤ F.faults files.new other }
 {
-    match system(alloc, files, name) {
-        Ok(raw) => complete(alloc, name, raw),
+    match one_system(alloc, files, request.file, request.sorting) {
+        Ok(one) => {
+            let [lts] = one.systems.as_slice() else {
+                unreachable!()
+            };
+            completion_of(alloc, request, &one.labels, lts)
+        }
         Err(status) => refused(alloc, status),
     }
 }
 
-fn load_both<F: Files>(alloc: Global, files: &mut F, request: &Request<'_>) -> Result<Pair, Status>
-    ensures loaded { MatchResult result (λ pair. ReadsAs (F.content files.old) request.now.spec.now pair.spec × ReadsAs (F.content files.old) request.now.imp.now pair.imp) (RefusesFiles (F.content files.old) (F.faults files.old) (F.faults files.new) (asked_from request.now)) }
-    ensures same { (name : List ℕ) → F.content files.new name ≡ F.content files.old name }
-    ensures later { (name : List ℕ) → F.faults files.old name ≤ F.faults files.new name }
+/// The answer of `angelic` for a system over the labels.
+fn completion_of(alloc: Global, request: &Angelic<'_>, labels: &Labels, lts: &Lts) -> Report
+    requires { IsOver labels.now lts.now }
+    ensures { (result.status ≡ Status.Memory) ⊎ (IsRefused (IsDiverging (request.now.file.now ∷ []) (lts.now ∷ [])) result.status result.text ⊎ (All IsConvergent (lts.now ∷ []) × IsCompletion labels.now (lts.now ∷ []) result.status result.text)) }
 {
-    let spec = match system(alloc, files, request.spec) {
-        Ok(spec) => spec,
-        Err(status) => return Err(status),
-    };
-    let imp = match system(alloc, files, request.imp) {
-        Ok(imp) => imp,
-        Err(status) => return Err(status),
-    };
-    Ok(Pair { spec, imp })
+    match diverging(alloc, request.file, lts) {
+        Ok(None) => completed(alloc, labels, lts),
+        Ok(Some(status)) => refused(alloc, status),
+        Err(_) => no_memory(alloc),
+    }
 }

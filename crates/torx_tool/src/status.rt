@@ -2,16 +2,22 @@
 ghost use Rattle.std.specs.Prelude.{◌≡◌};
 ghost use Rattle.torx_tool.specs.Printed.{code_of};
 
-use crate::words::UsageKind;
 use aut_text::AutError;
 use conf_decide::What;
-use lts_base::{Item, SplitError, StateList, Text, Trace};
+use lts_base::{Item, Memory, SplitError, StateList, Text, Trace};
+use std::alloc::{AllocError, AllocFailed};
+use text_scan::LinesError;
+use torx_words::UsageKind;
 
 /// Why a file isn't in its grammar. Want of memory never stands here.
 #[derive(Drop, Debug)]
 pub enum FileError {
     /// It is no Aldebaran file.
     Aut(AutError),
+    /// It lists no labels.
+    Lines(LinesError),
+    /// It is no trace: this line, counted from 1, is no label of the alphabet nor `delta`.
+    UnknownLabel(u32),
 }
 
 /// What there was too much of.
@@ -47,6 +53,11 @@ pub enum Status {
     },
     /// What was asked for was printed.
     Printed,
+    /// A prefix of the trace isn't allowed.
+    Absent {
+        /// The first place whose prefix isn't, counted from 1.
+        place: u32,
+    },
     /// A limit was passed.
     Limit {
         /// The limit.
@@ -114,6 +125,7 @@ impl Status {
             Status::Violates { .. } => 1,
             Status::Undecided { .. } => 2,
             Status::Printed => 0,
+            Status::Absent { .. } => 1,
             Status::Limit { .. } => 2,
             Status::Usage { .. } => 3,
             Status::TooLong { .. } => 4,
@@ -125,5 +137,38 @@ impl Status {
             Status::OutFault => 6,
             Status::Memory => 8,
         }
+    }
+}
+
+impl From<AllocError> for Status {
+    ghost use Rattle.std.specs.Prelude.{◌≡◌};
+    ghost use Rattle.torx_tool.specs.declared.status.Status.TheVariants.{Memory as OutOfMemory};
+
+    ghost from_gives = { λ _ e. e ≡ OutOfMemory };
+
+    fn from(_error: AllocError) -> Status {
+        Status::Memory
+    }
+}
+
+impl From<Memory> for Status {
+    ghost use Rattle.std.specs.Prelude.{◌≡◌};
+    ghost use Rattle.torx_tool.specs.declared.status.Status.TheVariants.{Memory as OutOfMemory};
+
+    ghost from_gives = { λ _ e. e ≡ OutOfMemory };
+
+    fn from(_error: Memory) -> Status {
+        Status::Memory
+    }
+}
+
+impl<T: Drop> From<AllocFailed<T>> for Status {
+    ghost use Rattle.std.specs.Prelude.{◌≡◌};
+    ghost use Rattle.torx_tool.specs.declared.status.Status.TheVariants.{Memory as OutOfMemory};
+
+    ghost from_gives = { λ _ e. e ≡ OutOfMemory };
+
+    fn from(_error: AllocFailed<T>) -> Status {
+        Status::Memory
     }
 }

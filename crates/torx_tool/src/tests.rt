@@ -7,7 +7,7 @@ use std::process::Abort;
 use std::test::Fail;
 
 /// The files that the cases speak of.
-const FILES: [(&str, &str); 20] = [
+const FILES: [(&str, &str); 31] = [
     (
         "S.aut",
         "des (0,3,3)\n(0,\"?coin\",1)\n(1,\"!tea\",2)\n(1,\"!coffee\",2)\n",
@@ -49,6 +49,17 @@ const FILES: [(&str, &str); 20] = [
     ),
     ("B.aut", "des (0,1,2)\n(0,\"?a\",2)\n"),
     ("Y.aut", "des (0,2,3)\n(0,\"tau\",1)\n(0,\"!x\",2)\n"),
+    ("H.aut", "des (0,1,2)\n(0,\"go!\",1)\n"),
+    ("J.aut", "des (0,1,2)\n(0,\"delta\",1)\n"),
+    ("coin", "?coin\n"),
+    ("coins", "?coin\n?coin\n"),
+    ("tea", "?tea\n"),
+    ("served", "?coin\r\n\n!tea\ndelta"),
+    ("a", "?a\n"),
+    ("ab", "?a\n?b\n"),
+    ("inputs", "coin\n"),
+    ("faulty", "tea\nco\u{1}in\n"),
+    ("late", "?coin\n\ntau\n"),
 ];
 
 fn contents(alloc: Global) -> Result<Contents, Memory> {
@@ -227,27 +238,81 @@ fn tells_what_is_wrong_with_files(rt: HostRuntime) -> Result<(), Fail> {
 }
 
 #[test]
+fn offers(rt: HostRuntime) -> Result<(), Fail> {
+    let rows: [(&str, &str, u8); 30] = [
+        ("outs S.aut", "states 0\nshows delta\ninput ?coin\n", 0),
+        (
+            "outs S.aut coin",
+            "states 1\nshows !coffee\nshows !tea\n",
+            0,
+        ),
+        ("outs S.aut coins", "absent 2\n", 1),
+        ("outs S.aut served", "states 2\nshows delta\n", 0),
+        ("outs S.aut tea", "bad tea unknown-label 1\n", 4),
+        ("outs S.aut late", "bad late unknown-label 3\n", 4),
+        ("outs K.aut", "states 0\nshows delta\ninput ?put 1, x\n", 0),
+        ("outs T.aut", "states 0 1\nshows delta\n", 0),
+        ("outs U.aut a", "states 1 2\nshows delta\ninput ?b\n", 0),
+        ("outs --uioco U.aut a", "states 1 2\nshows delta\n", 0),
+        ("outs U.aut ab", "states 3\nshows !x\n", 0),
+        ("outs U.aut --uioco ab", "absent 2\n", 1),
+        ("outs B.aut", "bad B.aut state 2\n", 4),
+        ("outs C.aut", "bad C.aut count declared=4 found=3\n", 4),
+        ("outs Z.aut", "bad Z.aut header\n", 4),
+        ("outs O.aut", "bad O.aut line 2\n", 4),
+        ("outs G.aut", "labels unsorted coin\n", 4),
+        ("outs J.aut", "labels reserved delta\n", 4),
+        (
+            "outs --inputs inputs G.aut",
+            "states 0\nshows delta\ninput coin\n",
+            0,
+        ),
+        ("outs --inputs faulty G.aut", "bad faulty line 2\n", 4),
+        ("outs --inputs N G.aut", "fault N\n", 5),
+        ("outs --inputs N Z.aut", "bad Z.aut header\n", 4),
+        ("outs --marks suffix H.aut", "states 0\nshows go!\n", 0),
+        ("outs --marks suffix S.aut", "labels unsorted ?coin\n", 4),
+        ("outs D.aut N", "divergent D.aut 0\n", 4),
+        ("outs S.aut N", "fault N\n", 5),
+        ("check --inputs inputs G.aut G.aut", "conforms pairs=2\n", 0),
+        ("check --marks suffix H.aut H.aut", "conforms pairs=2\n", 0),
+        (
+            "check --inputs=faulty S.aut M.aut",
+            "bad faulty line 2\n",
+            4,
+        ),
+        (
+            "angelic G.aut --inputs inputs",
+            "des (0,2,2)\n(0,\"coin\",1)\n(1,\"coin\",1)\n",
+            0,
+        ),
+    ];
+    for (line, want, code) in rows {
+        answers(&rt, rt.alloc(), line, want, code)?;
+    }
+    Ok(())
+}
+
+#[test]
 fn refuses_words(rt: HostRuntime) -> Result<(), Fail> {
-    let rows: [(&str, &str, u8); 15] = [
-        ("check --enabled --uioco S.aut I.aut", "usage words\n", 3),
-        ("angelic", "usage words\n", 3),
-        ("angelic S.aut S.aut", "usage words\n", 3),
+    let rows: [(&str, &str, u8); 9] = [
         ("", "usage no-command\n", 3),
         ("chek S.aut I.aut", "usage unknown-command\n", 3),
         ("--help", "usage unknown-command\n", 3),
         ("check S.aut", "usage words\n", 3),
-        ("check S.aut I.aut E.aut", "usage words\n", 3),
-        ("check S.aut -I", "usage words\n", 3),
+        ("angelic S.aut S.aut", "usage words\n", 3),
+        ("outs --pairs 3 S.aut", "usage words\n", 3),
+        ("check --pairs 0 S.aut I.aut", "usage value\n", 3),
         (
-            "check --members 1 --pairs 1 S.aut I.aut",
-            "usage words\n",
+            "check --marks suffix --inputs inputs S.aut I.aut",
+            "usage clash\n",
             3,
         ),
-        ("check --pairs -1 S.aut I.aut", "usage words\n", 3),
-        ("check --pairs 0 S.aut I.aut", "usage value\n", 3),
-        ("check --pairs 200001 S.aut I.aut", "usage value\n", 3),
-        ("check --members 33554433 S.aut I.aut", "usage value\n", 3),
-        ("check --members - S.aut I.aut", "usage value\n", 3),
+        (
+            "check --members 1 --uioco S.aut I.aut",
+            "undecided imp-members=2 depth=1\n",
+            2,
+        ),
     ];
     for (line, want, code) in rows {
         answers(&rt, rt.alloc(), line, want, code)?;

@@ -1,7 +1,21 @@
-use Rattle.torx_tool.proofs.Reports.{looped}
+use Rattle.std.proofs.Common.{◌≡◌, ◌∙◌, List, [], ◌∷◌, sym, subst}
+use Rattle.lts_base.specs.System.{System}
+use Rattle.torx_words.specs.Named.{sorting_as}
+use Rattle.torx_tool.specs.Causes.{world, IsCompletion, IsSplit}
+use Rattle.torx_tool.proofs.Reports.{answer_for, refused_for, one_of}
 use Rattle.torx_tool.proofs.run.completion.Goals as goal
 
-pub returns-in-Ok-clause-answer : goal.returns-in-Ok-clause-answer
-returns-in-Ok-clause-answer g c =
-    looped (g.F.Files.content c.args.files.now) (g.F.Files.faults c.args.files.now) (g.F.Files.faults c.system.new.files)
-    c.args.name.now c.in-Ok.raw _ _ c.in-Ok.ensures.loaded c.complete.ensures
+pub returns-in-len1-clause-answer : goal.returns-in-len1-clause-answer
+returns-in-len1-clause-answer g c =
+    let one : c.as_slice.result.now ≡ c.lts-item.result ∷ [] = one_of c.as_slice.result.now c.lts-item.result c.in-len1.len_at_least c.in-len1.len_below c.lts-item.is in
+    let systems : c.in-Ok.one.systems ≡ c.lts-item.result ∷ [] = sym c.as_slice.ensures ∙ one in
+    let loaded = c.in-Ok.ensures.loaded in
+    answer_for (world (g.F.Files.content c.args.files.now) (g.F.Files.faults c.args.files.now) (g.F.Files.faults c.one_system.new.files))
+    (c.args.request.now.file.now ∷ []) (sorting_as c.args.request.now.sorting) IsCompletion
+    loaded.0 loaded.1 c.in-Ok.one.labels (c.lts-item.result ∷ []) _ _ loaded.2
+    (subst (λ (ss : List System). IsSplit loaded.1 loaded.0 c.in-Ok.one.labels ss) systems loaded.3) c.completion_of.ensures
+
+pub returns-in-Err-clause-answer : goal.returns-in-Err-clause-answer
+returns-in-Err-clause-answer g c =
+    refused_for (world (g.F.Files.content c.args.files.now) (g.F.Files.faults c.args.files.now) (g.F.Files.faults c.one_system.new.files))
+    (c.args.request.now.file.now ∷ []) (sorting_as c.args.request.now.sorting) IsCompletion c.in-Err.status _ _ c.in-Err.ensures.loaded c.refused.ensures

@@ -4,6 +4,7 @@ use Rattle.std.proofs.lemmas.Result.{err_from_is_err_and}
 use Rattle.lts_base.specs.contracts.action.MoveOrd.TheImpl.Laws.{total-law}
 use Rattle.lts_base.specs.System.{IsMoveOf}
 use Rattle.lts_base.proofs.MoveLaws.{by_state_from_sorted, AllMoves-permuted}
+use Rattle.lts_base.proofs.SortedLaws.{AreSorted-from_sort}
 use Rattle.lts_base.proofs.system.Lts.build.Goals as goal
 
 pub returns-in_err-test_start-clause-err : goal.returns-in_err-test_start-clause-err
@@ -30,6 +31,7 @@ invariant_of-result c =
         states = c.ranges.states.fits;
         few = omega arith;
         moves = subst (λ (n : ℕ). All (IsMoveOf c.args.states n) c.sort_unstable.new.self.items) whole sorted;
+        sorted = AreSorted-from_sort _ c.sort_unstable.ensures.sorted;
       },
       by_state_from_sorted _ total-law (λ x y lt. let e : nat_lt x.from y.from ≡ true = (Decides-ltb x.from y.from).1 lt in rw e refl) _ c.sort_unstable.ensures.sorted,
       rw (← c.deref.ensures.value) c.in_ok-offsets.ensures,

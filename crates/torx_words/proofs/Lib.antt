@@ -1,0 +1,10 @@
+pub mod ParserRules
+pub mod ParserWords
+pub mod ParserRows
+pub mod ParserSteps
+pub mod ParserWalk
+pub mod ParserEnd
+pub mod ParserLaws
+pub mod CauseLemmas
+pub mod ReadLemmas
+pub mod CommandLemmas
