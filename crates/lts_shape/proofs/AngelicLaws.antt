@@ -1,5 +1,5 @@
 -- Laws on the completion by loops.
-use Rattle.std.proofs.Common.{◌≡◌, ◌≢◌, ℕ, suc, ◌+◌, ◌-◌, ◌<◌, ◌≤◌, List, [], ◌∷◌, ◌++◌, length, get_or, remove, All, Contains, Bool, true, false, inl, inr, ◌⊎◌, refl, sym, ◌∙◌, ap, arith}
+use Rattle.std.proofs.Common.{◌≡◌, ◌≢◌, ℕ, suc, ◌+◌, ◌-◌, ◌<◌, ◌≤◌, List, [], ◌∷◌, ◌++◌, Result, Ok, Err, IfOk, IfErr, MatchResult, length, get_or, remove, All, Contains, Bool, true, false, inl, inr, ◌⊎◌, refl, sym, ◌∙◌, ap, arith}
 use Rattle.std.specs.List.{AllPairs}
 use Rattle.std.specs.List.Sorted.{IsPermutation}
 use Rattle.std.proofs.lemmas.List.{append-nil, append_assoc, length-append, length_push, get_or_default, get_or_read}
@@ -270,3 +270,39 @@ refused_by_all s loops are (some, missing, over) =
       | inl can ↦ absurd (lacks can)
       | inr inside ↦ inside
     ])
+
+-- two completions have as many moves
+pub no_longer : (s t u : System) → IsAngelic s t → IsAngelic s u → length t.moves ≤ length u.moves
+no_longer s t u one two =
+    let long : length t.moves ≡ length (s.moves ++ one.moves.0) = length_permutation _ _ one.moves.2 in
+    let other : length u.moves ≡ length (s.moves ++ two.moves.0) = length_permutation _ _ two.moves.2 in
+    let fit = distinct_within one.moves.0 two.moves.0 one.moves.1.missing.once (each one.moves.0 one.moves.1.missing.each) in
+    let sum = length-append s.moves one.moves.0 in
+    let total = length-append s.moves two.moves.0 in
+    omega (arith, long, other, fit, sum, total)
+  where
+    there : (m : Move) → IsMissingLoop s m → Contains two.moves.0 m
+    there m (q, a, is, below, input, lacks) = elim (two.moves.1.all q a below input) [
+      | inl can ↦ absurd (lacks can)
+      | inr inside ↦ rw is inside
+    ]
+
+    each : (loops : List Move) → All (IsMissingLoop s) loops → All (Contains two.moves.0) loops
+    each loops missing k d below = there (get_or loops k d) (missing k d below)
+
+-- a refusal says that a completion has too many moves, or that memory ran out
+pub too_many : (s t : System) (e : ShapeError) → IsAngelic s t → RefusesAngelic s e → (e ≡ Memory) ⊎ (1048576 < length t.moves)
+too_many s t Memory is why = inl refl
+too_many s t TooManyMoves is why =
+    let long : length t.moves ≡ length (s.moves ++ is.moves.0) = length_permutation _ _ is.moves.2 in
+    let over = refused_by_all s is.moves.0 is.moves.1 why in
+    let sum = length-append s.moves is.moves.0 in
+    inr (omega (arith, long, over, sum))
+
+-- the answer is the completion exactly where that has at most 1,048,576 moves, but for memory
+pub exactly : (s t : System) (result : Result System ShapeError) → IsAngelic s t → IfOk result (IsAngelic s) → IfOk result (λ u. length u.moves ≤ 1048576) → IfErr result (RefusesAngelic s) →
+    MatchResult result (λ _. length t.moves ≤ 1048576) (λ e. (e ≡ Memory) ⊎ (1048576 < length t.moves))
+exactly s t (Ok u) is ok within err =
+    let same = no_longer s t u is ok in
+    omega (arith, same, within)
+exactly s t (Err e) is ok within err = too_many s t e is err

@@ -1,8 +1,9 @@
 //! The completion of a system by loops: an input that a state can't take leaves it where it is.
-ghost use Rattle.std.specs.Prelude.{◌≡◌, ℕ, ◌+◌, ◌<◌, ◌≤◌, ◌∷◌, ◌++◌, [], length, OnOk, IfOk, IfErr};
+ghost use Rattle.std.specs.Prelude.{◌≡◌, ℕ, ◌+◌, ◌<◌, ◌≤◌, ◌∷◌, ◌++◌, [], length, OnOk, IfOk, IfErr, MatchResult, ◌⊎◌};
 ghost use Rattle.lts_base.specs.Alphabet.{IsOver};
 ghost use Rattle.lts_base.specs.Shape.{IsInputEnabled};
 ghost use Rattle.lts_shape.specs.Arrivals.{AreArrivals};
+ghost use Rattle.lts_base.specs.System.{System};
 ghost use Rattle.lts_shape.specs.Angelic.{IsAngelic, RefusesAngelic, AreLoopsUpTo, IsFull, loop_with};
 
 use crate::arrivals::{Arrivals, arrivals_of};
@@ -38,6 +39,17 @@ impl From<Memory> for ShapeError {
 /// The system with a loop for each state and each input that can't follow moves with Tau from it,
 /// so that it is input-enabled. It takes, for each input, time linear in the states and moves.
 pub fn angelic(alloc: Global, lts: &Lts, labels: &Labels) -> Result<Lts, ShapeError>
+    requires { IsOver labels.now lts.now }
+    ensures ok { IfOk result (IsAngelic lts.now) }
+    ensures enabled { IfOk result IsInputEnabled }
+    ensures within { IfOk result (λ t. length t.moves ≤ 1048576) }
+    ensures err { IfErr result (RefusesAngelic lts.now) }
+    ensures exact { (t : System) → IsAngelic lts.now t → MatchResult result (λ _. length t.moves ≤ 1048576) (λ e. (e ≡ ShapeError.Memory) ⊎ (1048576 < length t.moves)) }
+{
+    whole(alloc, lts, labels)
+}
+
+fn whole(alloc: Global, lts: &Lts, labels: &Labels) -> Result<Lts, ShapeError>
     requires { IsOver labels.now lts.now }
     ensures ok { IfOk result (IsAngelic lts.now) }
     ensures enabled { IfOk result IsInputEnabled }

@@ -4,3 +4,9 @@ mod TraceLaws
 mod OfferLaws
 mod WorldLaws
 mod RunLaws
+mod WordsOnce
+mod UsageOnce
+mod ReadOnce
+mod RoomLaws
+mod HeadlineLaws
+mod ToldLaws

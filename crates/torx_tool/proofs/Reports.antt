@@ -1,7 +1,7 @@
 -- From a decision to the answer of a run.
-use Rattle.std.proofs.Common.{◌≡◌, ℕ, ◌<◌, ◌≤◌, List, [], ◌∷◌, length, get_or, All, arith, inl, inr, ◌⊎◌, ◌∙◌}
+use Rattle.std.proofs.Common.{◌≡◌, ℕ, ◌<◌, ◌≤◌, List, [], ◌∷◌, length, get_or, All, arith, subst, inl, inr, ◌⊎◌, ◌∙◌}
 use Rattle.std.proofs.lemmas.List.{length-map}
-use Rattle.std.proofs.lemmas.List.Elements.{All-push, All-contains}
+use Rattle.std.proofs.lemmas.List.Elements.{All-push, All-contains, All-cons, All-nil}
 use Rattle.lts_base.specs.declared.item.Item.{Item}
 use Rattle.lts_base.specs.declared.item.Item.TheVariants.{Input, Output, Delta}
 use Rattle.lts_base.specs.declared.sorting.Rule.{Rule}
@@ -11,6 +11,7 @@ use Rattle.lts_base.specs.After.{ShowsAfter}
 use Rattle.lts_base.specs.Alphabet.{Alphabet}
 use Rattle.lts_base.specs.Raw.{RawSystem}
 use Rattle.lts_base.specs.Shape.{IsConvergent}
+use Rattle.lts_base.specs.Sorting.{AreSystemsFor}
 use Rattle.lts_base.specs.Related.{row_of}
 use Rattle.lts_base.proofs.ListLaws.{snoc_induction}
 use Rattle.lts_base.proofs.SetLaws.{Has-front, Has-item}
@@ -22,7 +23,7 @@ use Rattle.torx_tool.specs.declared.status.Status.{Status}
 use Rattle.torx_tool.specs.declared.status.Status.TheVariants.{Memory}
 use Rattle.torx_words.specs.Asked.{AskedSorting, AskedCheck}
 use Rattle.torx_tool.specs.Printed.{IsPrintable, text_of}
-use Rattle.torx_tool.specs.Causes.{World, IsPrintableAnswer, IsDecision, IsDiverging, IsRefused, IsInput, IsSplit, RefusesInput, IsAnswerFor, reported, limits_of}
+use Rattle.torx_tool.specs.Causes.{World, IsPrintableAnswer, IsDecision, IsDiverging, IsRefused, IsInput, IsSplit, IsParted, RefusesInput, IsAnswerFor, reported, limits_of}
 
 printable_item : (s : System) (n : ℕ) (x : Item) → label_count s ≡ n → IsItemOf s x → IsPrintable n x
 printable_item s n (Input a) e h = omega arith
@@ -74,6 +75,21 @@ pub refused_for : (w : World) (names : List (List ℕ)) (sorting : AskedSorting)
 refused_for w names sorting own cause status text why (inl out) = inl out
 refused_for w names sorting own cause status text (inl out) (inr (is, says)) = inl (is ∙ out)
 refused_for w names sorting own cause status text (inr why) (inr (is, says)) = inr (inl (rw is why, rw is says))
+
+-- systems over an alphabet that are sound are what the raw systems are split into
+pub split_of : (rule : Rule) (raws : List RawSystem) (a : Alphabet) (parts systems : List System) → parts ≡ systems → IsParted rule raws a parts → All IsSystem systems → IsSplit rule raws a systems
+split_of rule raws a parts systems same parted sound = record {
+  alphabet = parted.alphabet;
+  over = subst (AreSystemsFor a raws) same parted.over;
+  sound = sound;
+}
+
+-- one or two sound systems
+pub one_sound : (s : System) → IsSystem s → All IsSystem (s ∷ [])
+one_sound s sound = All-cons IsSystem s [] sound (All-nil IsSystem)
+
+pub two_sound : (s t : System) → IsSystem s → IsSystem t → All IsSystem (s ∷ t ∷ [])
+two_sound s t sound other = All-cons IsSystem s (t ∷ []) sound (one_sound t other)
 
 pub one_of : {X : Type 0} (xs : List X) (a : X) → 1 ≤ length xs → length xs < 2 → a ≡ get_or xs 0 a → xs ≡ a ∷ []
 one_of [] a many few e = absurd (omega (arith, many))

@@ -6,12 +6,11 @@ use Rattle.lts_base.specs.Alphabet.{Alphabet}
 use Rattle.lts_base.specs.Raw.{RawSystem}
 use Rattle.lts_base.specs.System.{System}
 use Rattle.lts_base.specs.Shape.{IsConvergent}
-use Rattle.aut_text.specs.Grammar.{IsAut}
 use Rattle.torx_words.specs.Asked.{AskedSorting, by_prefix, by_suffix, by_list, AskedOuts}
 use Rattle.torx_tool.specs.declared.status.FileError.{FileError}
 use Rattle.torx_tool.specs.declared.status.Status.{Status}
 use Rattle.torx_tool.specs.declared.status.Status.TheVariants.{Conforms, Violates, Undecided, Printed, Absent, Limit, Usage, TooLong, BadFile, BadLabels, Divergent, NotEnabled, FileFault, OutFault, Memory}
-use Rattle.torx_tool.specs.Causes.{World, Told, Counts, world, Holds, RefusesFile, IsNoFault, RefusesRule, RefusesInput, RefusesLabels, IsInput, IsRule, IsDiverging, IsOffer, RefusesTraceFile, IsTraceOf, IsRefused}
+use Rattle.torx_tool.specs.Causes.{World, Told, Counts, world, Holds, RefusesFile, IsReadAs, IsNoFault, RefusesRule, RefusesInput, RefusesLabels, IsInput, IsRule, IsDiverging, IsOffer, RefusesTraceFile, IsTraceOf, IsRefused}
 
 -- the contents are the same, and no count fell
 pub record IsLater (c0 c1 : Told) (b0 b1 : Counts) : Type 0 where
@@ -93,13 +92,13 @@ since_both c0 c1 c2 b0 b1 b2 one two = record {
 }
 
 -- the list of inputs is refused after one system was read, or after two
-pub rule_refused : (c0 c1 : Told) (b0 b1 a : Counts) (name : List ℕ) (raw : RawSystem) (sorting : AskedSorting) (status : Status) → IsLater c0 c1 b0 b1 → Holds c0 name (λ c. IsAut c raw) →
+pub rule_refused : (c0 c1 : Told) (b0 b1 a : Counts) (name : List ℕ) (raw : RawSystem) (sorting : AskedSorting) (status : Status) → IsLater c0 c1 b0 b1 → Holds c0 name (λ c. IsReadAs c raw) →
     (status ≡ Memory) ⊎ RefusesRule (world c1 b1 a) sorting status → (status ≡ Memory) ⊎ RefusesInput (world c0 b0 a) (name ∷ []) sorting status
 rule_refused c0 c1 b0 b1 a name raw sorting status since read (inl out) = inl out
 rule_refused c0 c1 b0 b1 a name raw sorting status since read (inr why) = inr (inr (inl (raw ∷ [], (read, tt), rule_earlier c0 c1 b0 b1 a sorting status since why)))
 
 pub rule_refused_then : (c0 c1 c2 : Told) (b0 b1 b2 a : Counts) (first second : List ℕ) (one two : RawSystem) (sorting : AskedSorting) (status : Status) → IsLater c0 c1 b0 b1 → IsLater c1 c2 b1 b2 →
-    Holds c0 first (λ c. IsAut c one) → Holds c1 second (λ c. IsAut c two) → (status ≡ Memory) ⊎ RefusesRule (world c2 b2 a) sorting status →
+    Holds c0 first (λ c. IsReadAs c one) → Holds c1 second (λ c. IsReadAs c two) → (status ≡ Memory) ⊎ RefusesRule (world c2 b2 a) sorting status →
     (status ≡ Memory) ⊎ RefusesInput (world c0 b0 a) (first ∷ second ∷ []) sorting status
 rule_refused_then c0 c1 c2 b0 b1 b2 a first second one two sorting status since then read_one read_two (inl out) = inl out
 rule_refused_then c0 c1 c2 b0 b1 b2 a first second one two sorting status since then read_one read_two (inr why) =
@@ -107,7 +106,7 @@ rule_refused_then c0 c1 c2 b0 b1 b2 a first second one two sorting status since 
 
 -- two systems and a rule are the input of a command
 pub two_given : (c0 c1 c2 : Told) (b0 b1 b2 : Counts) (first second : List ℕ) (one two : RawSystem) (sorting : AskedSorting) (rule : Rule) → IsLater c0 c1 b0 b1 → IsLater c1 c2 b1 b2 →
-    Holds c0 first (λ c. IsAut c one) → Holds c1 second (λ c. IsAut c two) → IsRule c2 sorting rule → IsInput c0 (first ∷ second ∷ []) sorting (one ∷ two ∷ []) rule
+    Holds c0 first (λ c. IsReadAs c one) → Holds c1 second (λ c. IsReadAs c two) → IsRule c2 sorting rule → IsInput c0 (first ∷ second ∷ []) sorting (one ∷ two ∷ []) rule
 two_given c0 c1 c2 b0 b1 b2 first second one two sorting rule since then read_one read_two ruled = record {
   read = (read_one, (holds_same c0 c1 second _ (since.same second) read_two, tt));
   ruled = rule_same c0 c2 sorting rule (since_both c0 c1 c2 b0 b1 b2 since then).same ruled;

@@ -6,9 +6,9 @@ use Rattle.lts_base.specs.declared.item.Item.{Item}
 use Rattle.lts_base.specs.declared.sorting.Rule.{Rule}
 use Rattle.lts_base.specs.declared.sorting.Rule.TheVariants.{Prefix, Suffix, Listed}
 use Rattle.lts_base.specs.declared.sorting.SplitError.TheVariants.{Memory as NoRoomForLabels}
-use Rattle.lts_base.specs.System.{System}
+use Rattle.lts_base.specs.System.{System, IsSystem}
 use Rattle.lts_base.specs.Alphabet.{Alphabet}
-use Rattle.lts_base.specs.Raw.{RawSystem}
+use Rattle.lts_base.specs.Raw.{RawSystem, IsRaw}
 use Rattle.lts_base.specs.Shape.{IsConvergent, IsInputEnabled}
 use Rattle.lts_base.specs.Reached.{Limits}
 use Rattle.lts_base.specs.Sorting.{RefusesSplit, IsAlphabetOf, AreSystemsFor}
@@ -67,6 +67,11 @@ RefusesFile w faulty name other = ⊥
 abbrev pub IsNoFault : List ℕ → FileError → Type 0
 IsNoFault c error = ⊥
 
+-- the content is a file of this raw system, whose labels are those of its moves
+pub record IsReadAs (c : List ℕ) (raw : RawSystem) : Type 0 where
+  pub aut : IsAut c raw
+  pub sound : IsRaw raw
+
 -- the content isn't in the grammar of systems
 abbrev pub IsFaultySystem : List ℕ → FileError → Type 0
 IsFaultySystem c (Aut error) = RefusesAut c error × (error ≡ NoRoomForFile → ⊥)
@@ -84,13 +89,13 @@ IsFaultyTrace a c other = ⊥
 
 -- the files of these names are read as these raw systems
 abbrev pub AreRead : Told → List (List ℕ) → List RawSystem → Type 0
-AreRead content names raws = AllZip (λ name raw. Holds content name (λ c. IsAut c raw)) names raws
+AreRead content names raws = AllZip (λ name raw. Holds content name (λ c. IsReadAs c raw)) names raws
 
 -- the first of these files that is refused; those before it are read
 abbrev pub RefusesSystems : World → List (List ℕ) → Status → Type 0
 RefusesSystems w [] status = ⊥
 RefusesSystems w (name ∷ names) status = RefusesFile w IsFaultySystem name status ⊎
-    (((raw : RawSystem) × Holds w.content name (λ c. IsAut c raw)) × RefusesSystems w names status)
+    (((raw : RawSystem) × Holds w.content name (λ c. IsReadAs c raw)) × RefusesSystems w names status)
 
 -- the rule by which labels are sorted
 abbrev pub IsRule : Told → AskedSorting → Rule → Type 0
@@ -129,10 +134,16 @@ pub record IsInput (content : Told) (names : List (List ℕ)) (sorting : AskedSo
   pub read : AreRead content names raws
   pub ruled : IsRule content sorting rule
 
--- the raw systems have this alphabet and these systems over it
+-- the raw systems have this alphabet, and these are the raw systems over it
+pub record IsParted (rule : Rule) (raws : List RawSystem) (a : Alphabet) (systems : List System) : Type 0 where
+  pub alphabet : IsAlphabetOf rule raws a
+  pub over : AreSystemsFor a raws systems
+
+-- the same, and these systems are sound
 pub record IsSplit (rule : Rule) (raws : List RawSystem) (a : Alphabet) (systems : List System) : Type 0 where
   pub alphabet : IsAlphabetOf rule raws a
   pub over : AreSystemsFor a raws systems
+  pub sound : All IsSystem systems
 
 -- why there are no systems over one alphabet: a file of a system is refused; or all are read, and the list of inputs is
 -- refused; or that is read too, and the labels can't be sorted

@@ -1,3 +1,4 @@
 pub mod Printed
 pub mod Offered
 pub mod Causes
+pub mod Headline

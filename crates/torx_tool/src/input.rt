@@ -5,7 +5,7 @@ ghost use Rattle.lts_base.specs.Raw.{RawSystem};
 ghost use Rattle.lts_base.specs.declared.sorting.Rule.{Rule as SortingRule};
 ghost use Rattle.torx_words.specs.Named.{sorting_as};
 ghost use Rattle.torx_tool.specs.Printed.{IsRefusal};
-ghost use Rattle.torx_tool.specs.Causes.{world, IsInput, IsSplit, RefusesInput, RefusesLabels};
+ghost use Rattle.torx_tool.specs.Causes.{world, IsInput, IsParted, RefusesInput, RefusesLabels};
 
 use crate::load::{rule, system};
 use crate::status::Status;
@@ -21,7 +21,7 @@ pub fn one_system<F: Files>(
     name: &str,
     sorting: Sorting<'_>,
 ) -> Result<SplitSystems, Status>
-    ensures loaded { MatchResult result (λ split. (raws : List RawSystem) × (rule : SortingRule) × IsInput (F.content files.old) (name.now ∷ []) (sorting_as sorting.entry) raws rule × IsSplit rule raws split.labels split.systems) (λ status. (status ≡ Status.Memory) ⊎ RefusesInput (world (F.content files.old) (F.faults files.old) (F.faults files.new)) (name.now ∷ []) (sorting_as sorting.entry) status) }
+    ensures loaded { MatchResult result (λ split. (raws : List RawSystem) × (rule : SortingRule) × IsInput (F.content files.old) (name.now ∷ []) (sorting_as sorting.entry) raws rule × IsParted rule raws split.labels split.systems) (λ status. (status ≡ Status.Memory) ⊎ RefusesInput (world (F.content files.old) (F.faults files.old) (F.faults files.new)) (name.now ∷ []) (sorting_as sorting.entry) status) }
     ensures over { IfOk result (λ split. All (IsOver split.labels) split.systems) }
     ensures count { IfOk result (λ split. length split.systems ≡ 1) }
     ensures refusal { IfErr result IsRefusal }
@@ -41,7 +41,7 @@ pub fn two_systems<F: Files>(
     second: &str,
     sorting: Sorting<'_>,
 ) -> Result<SplitSystems, Status>
-    ensures loaded { MatchResult result (λ split. (raws : List RawSystem) × (rule : SortingRule) × IsInput (F.content files.old) (first.now ∷ second.now ∷ []) (sorting_as sorting.entry) raws rule × IsSplit rule raws split.labels split.systems) (λ status. (status ≡ Status.Memory) ⊎ RefusesInput (world (F.content files.old) (F.faults files.old) (F.faults files.new)) (first.now ∷ second.now ∷ []) (sorting_as sorting.entry) status) }
+    ensures loaded { MatchResult result (λ split. (raws : List RawSystem) × (rule : SortingRule) × IsInput (F.content files.old) (first.now ∷ second.now ∷ []) (sorting_as sorting.entry) raws rule × IsParted rule raws split.labels split.systems) (λ status. (status ≡ Status.Memory) ⊎ RefusesInput (world (F.content files.old) (F.faults files.old) (F.faults files.new)) (first.now ∷ second.now ∷ []) (sorting_as sorting.entry) status) }
     ensures over { IfOk result (λ split. All (IsOver split.labels) split.systems) }
     ensures count { IfOk result (λ split. length split.systems ≡ 2) }
     ensures refusal { IfErr result IsRefusal }
@@ -56,7 +56,7 @@ pub fn two_systems<F: Files>(
 }
 
 fn over_one_alphabet(alloc: Global, raws: &[RawLts], rule: &Rule) -> Result<SplitSystems, Status>
-    ensures split { MatchResult result (λ split. IsSplit rule.now raws.now split.labels split.systems) (λ status. (status ≡ Status.Memory) ⊎ RefusesLabels rule.now raws.now status) }
+    ensures split { MatchResult result (λ split. IsParted rule.now raws.now split.labels split.systems) (λ status. (status ≡ Status.Memory) ⊎ RefusesLabels rule.now raws.now status) }
     ensures over { IfOk result (λ split. All (IsOver split.labels) split.systems) }
     ensures count { IfOk result (λ split. length split.systems ≡ length raws.now) }
     ensures refusal { IfErr result IsRefusal }

@@ -2,13 +2,12 @@
 ghost use Rattle.std.specs.Prelude.{◌≡◌, ◌≤◌, ℕ, List, length, MatchResult, IfOk, IfErr, All, ◌⊎◌};
 ghost use Rattle.std.specs.Option.{IfSome, option_map};
 ghost use Rattle.text_scan.specs.Listing.{IsListing, RefusesListing};
-ghost use Rattle.aut_text.specs.Grammar.{IsAut};
 ghost use Rattle.aut_text.specs.Faults.{RefusesAut};
 ghost use Rattle.torx_words.specs.Named.{sorting_as};
 ghost use Rattle.torx_words.specs.Asked.{by_list};
 ghost use Rattle.torx_tool.specs.Printed.{IsRefusal};
 ghost use Rattle.torx_tool.specs.Offered.{IsItem, IsTrace};
-ghost use Rattle.torx_tool.specs.Causes.{world, Holds, RefusesFile, IsFaultySystem, IsFaultyList, IsFaultyTrace, IsNoFault, IsRule, RefusesRule, IsTraceOf, RefusesTraceFile};
+ghost use Rattle.torx_tool.specs.Causes.{world, Holds, RefusesFile, IsReadAs, IsFaultySystem, IsFaultyList, IsFaultyTrace, IsNoFault, IsRule, RefusesRule, IsTraceOf, RefusesTraceFile};
 
 use crate::status::{FileError, Status};
 use crate::trace::{TraceError, read_trace};
@@ -24,7 +23,7 @@ const MOST_BYTES: u64 = 67_108_864;
 
 /// The system of a file.
 pub fn system<F: Files>(alloc: Global, files: &mut F, name: &str) -> Result<RawLts, Status>
-    ensures loaded { MatchResult result (λ raw. Holds (F.content files.old) name.now (λ c. IsAut c raw)) (λ status. (status ≡ Status.Memory) ⊎ RefusesFile (world (F.content files.old) (F.faults files.old) (F.faults files.new)) IsFaultySystem name.now status) }
+    ensures loaded { MatchResult result (λ raw. Holds (F.content files.old) name.now (λ c. IsReadAs c raw)) (λ status. (status ≡ Status.Memory) ⊎ RefusesFile (world (F.content files.old) (F.faults files.old) (F.faults files.new)) IsFaultySystem name.now status) }
     ensures refusal { IfErr result IsRefusal }
     ensures same { (other : List ℕ) → F.content files.new other ≡ F.content files.old other }
     ensures later { (other : List ℕ) → F.faults files.old other ≤ F.faults files.new other }
@@ -126,11 +125,13 @@ fn content<F: Files>(alloc: Global, files: &mut F, name: &str) -> Result<Text, S
 
 fn read_system(alloc: Global, content: &[u8]) -> Result<RawLts, AutError>
     requires { length content.now ≤ 67108864 }
-    ensures { MatchResult result (IsAut content.now) (RefusesAut content.now) }
+    ensures { MatchResult result (IsReadAs content.now) (RefusesAut content.now) }
 {
     let mut reader = AutReader::new(alloc)?;
     reader.feed(content)?;
-    reader.end()
+    let raw = reader.end()?;
+    let _ = raw.states();
+    Ok(raw)
 }
 
 fn listed(alloc: Global, content: &[u8]) -> Result<Texts, LinesError>

@@ -2,9 +2,13 @@
 ghost use Rattle.std.specs.Prelude.{◌≡◌, ◌≤◌, ◌<◌, ◌⊎◌, ◌+◌, ℕ, List, [], map, MatchResult, Err, string_bytes};
 ghost use Rattle.std.specs.Prelude.{◌∷◌, All, IfErr};
 ghost use Rattle.lts_base.specs.Alphabet.{IsOver};
+ghost use Rattle.lts_base.specs.System.{System};
 ghost use Rattle.lts_base.specs.Shape.{IsConvergent};
+ghost use Rattle.torx_words.specs.Asked.{AskedCheck, AskToCheck, RefusesWords};
+ghost use Rattle.torx_words.specs.declared.kind.UsageKind.{UsageKind};
 ghost use Rattle.torx_words.specs.Named.{check_from, outs_from, angelic_from};
 ghost use Rattle.torx_tool.specs.Causes.{world, IsRefused, IsDiverging, IsOffer, IsCompletion, IsCheckedFor, IsOfferedFor, IsCompletedFor, IsAnswer, IsRun};
+ghost use Rattle.torx_tool.specs.Headline.{IsFailure, IsComparable, IsSettled, IsToldRefusal};
 
 use crate::compare::compare;
 use crate::complete::completed;
@@ -24,6 +28,9 @@ pub fn run<F: Files, S: Sink>(alloc: Global, words: &[String], files: &mut F, ou
     ensures run { IsRun (world (F.content files.old) (F.faults files.old) (F.faults files.new)) (map string_bytes words.now) (S.written out.old) (S.written out.new) (S.faults out.old) (S.faults out.new) result }
     ensures same { (other : List ℕ) → F.content files.new other ≡ F.content files.old other }
     ensures later { (other : List ℕ) → F.faults files.old other ≤ F.faults files.new other }
+    ensures headline { (asked : AskedCheck) (s i : System) → AskToCheck (map string_bytes words.now) asked → IsComparable (F.content files.old) asked s i → IsSettled asked s i result }
+    ensures usage { (kind : UsageKind) → RefusesWords (map string_bytes words.now) kind → (result ≡ Status.Usage kind) ⊎ IsFailure result }
+    ensures refused { (asked : AskedCheck) (cause : Status) → AskToCheck (map string_bytes words.now) asked → IsToldRefusal (F.content files.old) asked cause → (result ≡ cause) ⊎ IsFailure result }
 {
     let report = answer(alloc, words, files);
     if let Status::Memory = report.status {
@@ -63,6 +70,8 @@ fn check<F: Files>(alloc: Global, files: &mut F, request: &Check<'_>) -> Report
             let [spec, imp] = both.systems.as_slice() else {
                 unreachable!()
             };
+            let _ = spec.states();
+            let _ = imp.states();
             compare(alloc, request, &both.labels, spec, imp)
         }
         Err(status) => refused(alloc, status),
@@ -80,6 +89,7 @@ fn outs<F: Files>(alloc: Global, files: &mut F, request: &Outs<'_>) -> Report
             let [lts] = one.systems.as_slice() else {
                 unreachable!()
             };
+            let _ = lts.states();
             outs_of(alloc, files, request, &one.labels, lts)
         }
         Err(status) => refused(alloc, status),
@@ -136,6 +146,7 @@ fn completion<F: Files>(alloc: Global, files: &mut F, request: &Angelic<'_>) -> 
             let [lts] = one.systems.as_slice() else {
                 unreachable!()
             };
+            let _ = lts.states();
             completion_of(alloc, request, &one.labels, lts)
         }
         Err(status) => refused(alloc, status),

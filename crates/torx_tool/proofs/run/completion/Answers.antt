@@ -1,8 +1,7 @@
-use Rattle.std.proofs.Common.{◌≡◌, ◌∙◌, List, [], ◌∷◌, sym, subst}
-use Rattle.lts_base.specs.System.{System}
+use Rattle.std.proofs.Common.{◌≡◌, ◌∙◌, [], ◌∷◌, sym}
 use Rattle.torx_words.specs.Named.{sorting_as}
-use Rattle.torx_tool.specs.Causes.{world, IsCompletion, IsSplit}
-use Rattle.torx_tool.proofs.Reports.{answer_for, refused_for, one_of}
+use Rattle.torx_tool.specs.Causes.{world, IsCompletion}
+use Rattle.torx_tool.proofs.Reports.{answer_for, refused_for, one_of, one_sound, split_of}
 use Rattle.torx_tool.proofs.run.completion.Goals as goal
 
 pub returns-in-len1-clause-answer : goal.returns-in-len1-clause-answer
@@ -13,7 +12,7 @@ returns-in-len1-clause-answer g c =
     answer_for (world (g.F.Files.content c.args.files.now) (g.F.Files.faults c.args.files.now) (g.F.Files.faults c.one_system.new.files))
     (c.args.request.now.file.now ∷ []) (sorting_as c.args.request.now.sorting) IsCompletion
     loaded.0 loaded.1 c.in-Ok.one.labels (c.lts-item.result ∷ []) _ _ loaded.2
-    (subst (λ (ss : List System). IsSplit loaded.1 loaded.0 c.in-Ok.one.labels ss) systems loaded.3) c.completion_of.ensures
+    (split_of loaded.1 loaded.0 c.in-Ok.one.labels c.in-Ok.one.systems (c.lts-item.result ∷ []) systems loaded.3 (one_sound c.lts-item.result c.states.ensures.system)) c.completion_of.ensures
 
 pub returns-in-Err-clause-answer : goal.returns-in-Err-clause-answer
 returns-in-Err-clause-answer g c =

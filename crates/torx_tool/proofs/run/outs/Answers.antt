@@ -1,8 +1,7 @@
-use Rattle.std.proofs.Common.{◌≡◌, ◌∙◌, List, [], ◌∷◌, sym, subst}
-use Rattle.lts_base.specs.System.{System}
+use Rattle.std.proofs.Common.{◌≡◌, ◌∙◌, [], ◌∷◌, sym}
 use Rattle.torx_words.specs.Named.{outs_from, sorting_as}
-use Rattle.torx_tool.specs.Causes.{world, IsOffer, IsSplit}
-use Rattle.torx_tool.proofs.Reports.{answer_for, refused_for, one_of}
+use Rattle.torx_tool.specs.Causes.{world, IsOffer}
+use Rattle.torx_tool.proofs.Reports.{answer_for, refused_for, one_of, one_sound, split_of}
 use Rattle.torx_tool.proofs.WorldLaws.{IsLater, offer_earlier}
 use Rattle.torx_tool.proofs.run.outs.Goals as goal
 
@@ -17,7 +16,7 @@ returns-in-len1-clause-answer g c =
     (c.args.request.now.spec.now ∷ []) (sorting_as c.args.request.now.sorting)
     (IsOffer (world (g.F.Files.content c.args.files.now) (g.F.Files.faults c.args.files.now) (g.F.Files.faults c.outs_of.new.files)) (outs_from c.args.request.now))
     loaded.0 loaded.1 c.in-Ok.one.labels (c.lts-item.result ∷ []) _ _ loaded.2
-    (subst (λ (ss : List System). IsSplit loaded.1 loaded.0 c.in-Ok.one.labels ss) systems loaded.3)
+    (split_of loaded.1 loaded.0 c.in-Ok.one.labels c.in-Ok.one.systems (c.lts-item.result ∷ []) systems loaded.3 (one_sound c.lts-item.result c.states.ensures.system))
     (offer_earlier _ _ _ _ _ (outs_from c.args.request.now) (c.args.request.now.spec.now ∷ []) c.in-Ok.one.labels c.lts-item.result _ _ since c.outs_of.ensures.answer)
 
 pub returns-in-Err-clause-answer : goal.returns-in-Err-clause-answer

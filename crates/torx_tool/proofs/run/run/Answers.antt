@@ -1,3 +1,8 @@
+use Rattle.std.proofs.Common.{inr}
+use Rattle.torx_tool.specs.Causes.{world}
+use Rattle.torx_tool.proofs.HeadlineLaws.{failed, headline}
+use Rattle.torx_tool.proofs.ToldLaws.{refused_told}
+use Rattle.torx_tool.proofs.UsageOnce.{usage_told}
 use Rattle.torx_tool.proofs.RunLaws.{ran}
 use Rattle.torx_tool.proofs.run.run.Goals as goal
 
@@ -6,6 +11,9 @@ returns-in-Ok g c = record {
   run = ran _ _ _ _ _ _ c.answer-report.result.status c.answer-report.result.text c.in_default.not-Memory c.answer-report.ensures.answer (rw c.as_slice.ensures at c.in-Ok.ensures.ok);
   same = c.answer-report.ensures.same;
   later = c.answer-report.ensures.later;
+  headline = headline (world (g.F.Files.content c.args.files.now) (g.F.Files.faults c.args.files.now) (g.F.Files.faults c.answer-report.new.files)) _ _ _ c.answer-report.ensures.answer;
+  usage = usage_told (world (g.F.Files.content c.args.files.now) (g.F.Files.faults c.args.files.now) (g.F.Files.faults c.answer-report.new.files)) _ _ _ c.answer-report.ensures.answer;
+  refused = refused_told (world (g.F.Files.content c.args.files.now) (g.F.Files.faults c.args.files.now) (g.F.Files.faults c.answer-report.new.files)) _ _ _ c.answer-report.ensures.answer;
 }
 
 pub returns-in-Err : goal.returns-in-Err
@@ -13,4 +21,7 @@ returns-in-Err g c = record {
   run = (c.in-Err.ensures.failed, (c.answer-report.result.status, c.answer-report.result.text, c.in_default.not-Memory, c.answer-report.ensures.answer, rw c.as_slice.ensures at c.in-Err.ensures.front));
   same = c.answer-report.ensures.same;
   later = c.answer-report.ensures.later;
+  headline = λ asked s i ask files. failed asked s i _ tt;
+  usage = λ kind why. inr tt;
+  refused = λ asked cause ask told. inr tt;
 }

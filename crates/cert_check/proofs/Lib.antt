@@ -1,0 +1,11 @@
+pub mod MarkLaws
+pub mod FindLaws
+pub mod OfferLaws
+pub mod ItemLaws
+pub mod PairLaws
+pub mod TraceLaws
+pub mod RelationLaws
+pub mod IndexLaws
+pub mod ValidLaws
+pub mod AnswerLaws
+pub mod CoinLabels

@@ -1,0 +1,15 @@
+use Rattle.std.proofs.lemmas.Bool.{false≢true, iff_false}
+use Rattle.lts_base.specs.System.{Takes}
+use Rattle.lts_base.proofs.ListLaws.{below_next}
+use Rattle.cert_check.proofs.OfferLaws.{none_of}
+use Rattle.cert_check.proofs.offers.some_takes.Goals as goal
+
+pub states-preserved : goal.states-preserved
+states-preserved c =
+    below_next (λ q. Takes c.args.lts.now q c.args.label → ⊥) _ _ _ c.states-test.true c.states.invariant (iff_false c.has_move.ensures c.if-has_move.false)
+
+pub returns : goal.returns
+returns c = (
+  λ t. absurd (false≢true t),
+  λ some. absurd (none_of (λ q. Takes c.args.lts.now q c.args.label) _ _ c.states-test.false c.states.invariant some),
+)

@@ -1,0 +1,73 @@
+use Rattle.std.proofs.Common.{◌≡◌, ◌+◌, ◌<◌, ◌≤◌, [], length, get_or, sym, ap, ◌∙◌, refl}
+use Rattle.cert_check.specs.Index.{Names}
+use Rattle.cert_check.proofs.RelationLaws.{listed, valid_none, valid_next, more_at, not_closed_at, valid_all}
+use Rattle.cert_check.proofs.relation.check_pairs.Goals as goal
+
+pub pairs-init : goal.pairs-init
+pairs-init c = record {
+  imp_marks = c.requires.imp_states;
+  spec_marks = c.requires.spec_states;
+  number = refl;
+  valid = valid_none _ _ _ _ c.requires.opening;
+}
+
+pub shows_more-requires-clause-left : goal.shows_more-requires-clause-left
+shows_more-requires-clause-left c =
+    let below : c.pairs.pair-index < length c.args.relation.now.pairs = rw c.as_slice-pairs.ensures at c.pairs-test.true in
+    let left : c.list_at-left.result.now ≡ get_or c.args.relation.now.left (get_or c.args.relation.now.pairs c.pairs.pair-index (0, 0)).0 [] = rw (c.as_slice-lefts.ensures, c.as_slice-pairs.ensures) at c.list_at-left.ensures in
+    listed _ _ _ _ c.requires.relation.left (c.requires.relation.pairs c.pairs.pair-index (0, 0) below).0 left
+
+pub shows_more-requires-clause-right : goal.shows_more-requires-clause-right
+shows_more-requires-clause-right c =
+    let below : c.pairs.pair-index < length c.args.relation.now.pairs = rw c.as_slice-pairs.ensures at c.pairs-test.true in
+    let right : c.list_at-right.result.now ≡ get_or c.args.relation.now.right (get_or c.args.relation.now.pairs c.pairs.pair-index (0, 0)).1 [] = rw (c.as_slice-rights.ensures, c.as_slice-pairs.ensures) at c.list_at-right.ensures in
+    listed _ _ _ _ c.requires.relation.right (c.requires.relation.pairs c.pairs.pair-index (0, 0) below).1 right
+
+pub first_open-requires-clause-left : goal.first_open-requires-clause-left
+first_open-requires-clause-left c =
+    let below : c.pairs.pair-index < length c.args.relation.now.pairs = rw c.as_slice-pairs.ensures at c.pairs-test.true in
+    let left : c.list_at-left.result.now ≡ get_or c.args.relation.now.left (get_or c.args.relation.now.pairs c.pairs.pair-index (0, 0)).0 [] = rw (c.as_slice-lefts.ensures, c.as_slice-pairs.ensures) at c.list_at-left.ensures in
+    listed _ _ _ _ c.requires.relation.left (c.requires.relation.pairs c.pairs.pair-index (0, 0) below).0 left
+
+pub first_open-requires-clause-right : goal.first_open-requires-clause-right
+first_open-requires-clause-right c =
+    let below : c.pairs.pair-index < length c.args.relation.now.pairs = rw c.as_slice-pairs.ensures at c.pairs-test.true in
+    let right : c.list_at-right.result.now ≡ get_or c.args.relation.now.right (get_or c.args.relation.now.pairs c.pairs.pair-index (0, 0)).1 [] = rw (c.as_slice-rights.ensures, c.as_slice-pairs.ensures) at c.list_at-right.ensures in
+    listed _ _ _ _ c.requires.relation.right (c.requires.relation.pairs c.pairs.pair-index (0, 0) below).1 right
+
+pub returns-then-shows_more : goal.returns-then-shows_more
+returns-then-shows_more c =
+    let below : c.pairs.pair-index < length c.args.relation.now.pairs = rw c.as_slice-pairs.ensures at c.pairs-test.true in
+    let left : c.list_at-left.result.now ≡ get_or c.args.relation.now.left (get_or c.args.relation.now.pairs c.pairs.pair-index (0, 0)).0 [] = rw (c.as_slice-lefts.ensures, c.as_slice-pairs.ensures) at c.list_at-left.ensures in
+    let right : c.list_at-right.result.now ≡ get_or c.args.relation.now.right (get_or c.args.relation.now.pairs c.pairs.pair-index (0, 0)).1 [] = rw (c.as_slice-rights.ensures, c.as_slice-pairs.ensures) at c.list_at-right.ensures in
+    let names : Names c.args.relation.now (get_or c.args.relation.now.pairs c.pairs.pair-index (0, 0)) c.list_at-left.result.now c.list_at-right.result.now = record { first = sym left; second = sym right } in
+    (c.pairs.pair-index, ap (λ z. z + 1) c.pairs.invariant.number, more_at _ _ _ _ _ (0, 0) _ _ below names (rw c.if-shows_more.true at c.shows_more.ensures) c.pairs.invariant.valid)
+
+pub returns-in-Some : goal.returns-in-Some
+returns-in-Some c =
+    let below : c.pairs.pair-index < length c.args.relation.now.pairs = rw c.as_slice-pairs.ensures at c.pairs-test.true in
+    let left : c.list_at-left.result.now ≡ get_or c.args.relation.now.left (get_or c.args.relation.now.pairs c.pairs.pair-index (0, 0)).0 [] = rw (c.as_slice-lefts.ensures, c.as_slice-pairs.ensures) at c.list_at-left.ensures in
+    let right : c.list_at-right.result.now ≡ get_or c.args.relation.now.right (get_or c.args.relation.now.pairs c.pairs.pair-index (0, 0)).1 [] = rw (c.as_slice-rights.ensures, c.as_slice-pairs.ensures) at c.list_at-right.ensures in
+    let names : Names c.args.relation.now (get_or c.args.relation.now.pairs c.pairs.pair-index (0, 0)) c.list_at-left.result.now c.list_at-right.result.now = record { first = sym left; second = sym right } in (
+      c.pairs.pair-index,
+      ap (λ z. z + 1) c.pairs.invariant.number,
+      not_closed_at _ _ _ _ _ (0, 0) _ _ _ below names (rw c.if-shows_more.false at c.shows_more.ensures) (rw c.in-Some.is at c.in_ok-fault.ensures.open_at) c.pairs.invariant.valid,
+    )
+
+pub pairs-preserved : goal.pairs-preserved
+pairs-preserved c =
+    let below : c.pairs.pair-index < length c.args.relation.now.pairs = rw c.as_slice-pairs.ensures at c.pairs-test.true in
+    let left : c.list_at-left.result.now ≡ get_or c.args.relation.now.left (get_or c.args.relation.now.pairs c.pairs.pair-index (0, 0)).0 [] = rw (c.as_slice-lefts.ensures, c.as_slice-pairs.ensures) at c.list_at-left.ensures in
+    let right : c.list_at-right.result.now ≡ get_or c.args.relation.now.right (get_or c.args.relation.now.pairs c.pairs.pair-index (0, 0)).1 [] = rw (c.as_slice-rights.ensures, c.as_slice-pairs.ensures) at c.list_at-right.ensures in
+    let names : Names c.args.relation.now (get_or c.args.relation.now.pairs c.pairs.pair-index (0, 0)) c.list_at-left.result.now c.list_at-right.result.now = record { first = sym left; second = sym right } in
+    record {
+      imp_marks = c.in_ok-fault.ensures.imp_states ∙ c.pairs.invariant.imp_marks;
+      spec_marks = c.in_ok-fault.ensures.spec_states ∙ c.pairs.invariant.spec_marks;
+      number = ap (λ z. z + 1) c.pairs.invariant.number;
+      valid = valid_next _ _ _ _ _ (0, 0) _ _ below names (rw c.if-shows_more.false at c.shows_more.ensures) (rw c.in_default.is at c.in_ok-fault.ensures.open_at) c.pairs.invariant.valid;
+    }
+
+pub returns : goal.returns
+returns c =
+    let over : length c.args.relation.now.pairs ≤ c.pairs.pair-index = rw c.as_slice-pairs.ensures at c.pairs-test.false in
+    valid_all _ _ _ _ _ over c.pairs.invariant.valid

@@ -1,0 +1,22 @@
+use Rattle.std.proofs.Common.{◌≤◌, ◌<◌, length, ◌∙◌, arith}
+use Rattle.cert_check.proofs.FindLaws.{IsClosing-none, IsClosing-more, IsClosing-all}
+use Rattle.cert_check.proofs.sets.close.Goals as goal
+
+pub finds-init : goal.finds-init
+finds-init c = record {
+  states = c.requires.states;
+  closing = IsClosing-none _ _;
+}
+
+pub finds-preserved : goal.finds-preserved
+finds-preserved c =
+    let below : c.finds.at < length c.finds.marks.found = omega (arith, c.finds-test.true, c.len.ensures.value) in
+    record {
+      states = c.in_ok-spread.ensures.states ∙ c.finds.invariant.states;
+      closing = IsClosing-more _ _ _ _ _ _ below c.at-state.ensures.value c.in_ok-spread.ensures.adds c.finds.invariant.closing;
+    }
+
+pub returns-clause-closure : goal.returns-clause-closure
+returns-clause-closure c =
+    let over : length c.finds.marks.found ≤ c.finds.at = omega (arith, c.finds-test.false, c.len.ensures.value) in
+    IsClosing-all _ _ _ _ over c.finds.invariant.closing

@@ -1,0 +1,4 @@
+pub mod Finds
+pub mod Checks
+pub mod Progress
+pub mod Index

@@ -1,0 +1,5 @@
+pub mod Printed
+pub mod Certificate
+pub mod Numbers
+pub mod Faults
+pub mod Adding

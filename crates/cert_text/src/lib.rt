@@ -1,0 +1,23 @@
+//! The texts of certificates of conformance: their printer and their reader.
+#![tactic(auto)]
+
+mod cert;
+mod error;
+mod item;
+mod line;
+mod listing;
+mod number;
+mod pairing;
+mod piece;
+mod printer;
+mod reader;
+mod stage;
+#[cfg(test)]
+mod tests;
+mod tracing;
+
+pub use cert::{Cert, CertBody};
+pub use error::CertError;
+pub use printer::print_cert;
+pub use reader::read_cert;
+pub use stage::Stage;

@@ -1,0 +1,163 @@
+//! Lines of a relation.
+ghost use Rattle.std.specs.Prelude.{◌≡◌, ℕ, ◌∷◌, ◌++◌, ◌+◌, ◌^◌, ◌<◌, [], length, codes, decimal, IsTrue, ◌↔◌, MatchOption};
+ghost use Rattle.lts_base.specs.Alphabet.{Alphabet};
+ghost use Rattle.cert_text.specs.Printed.{spaced};
+ghost use Rattle.cert_text.specs.Adding.{Reads};
+
+use crate::cert::{Cert, CertBody};
+use crate::error::CertError;
+use crate::listing::list_of;
+use crate::number::{is_count, place_in};
+use crate::piece::{after_word, next_piece};
+use crate::stage::Stage;
+use lts_base::{Mode, Relation};
+use std::alloc::Global;
+
+/// What line `number` adds to a relation.
+pub fn read_pairing(
+    alloc: Global,
+    mode: Mode,
+    relation: Relation,
+    line: &[u8],
+    imp_states: u32,
+    spec_states: u32,
+    number: u32,
+) -> Result<Stage, CertError>
+    requires left { length relation.left < 2 ^ 32 }
+    requires right { length relation.right < 2 ^ 32 }
+    ensures { (a : Alphabet) → Reads a imp_states spec_states (Stage.Pairing mode relation) line.now number result }
+{
+    if let Some(text) = after_word(line, b"left") {
+        return add_left(alloc, mode, relation, text, imp_states, number);
+    }
+    if let Some(text) = after_word(line, b"right") {
+        return add_right(alloc, mode, relation, text, spec_states, number);
+    }
+    if let Some(text) = after_word(line, b"pair") {
+        return add_pair(mode, relation, text, number);
+    }
+    if let Some(text) = after_word(line, b"end") {
+        return end_relation(mode, relation, text, number);
+    }
+    Err(CertError::Line(number))
+}
+
+fn add_left(
+    alloc: Global,
+    mode: Mode,
+    relation: Relation,
+    text: &[u8],
+    imp_states: u32,
+    number: u32,
+) -> Result<Stage, CertError>
+    ensures { (a : Alphabet) (spec : ℕ) → Reads a imp_states spec (Stage.Pairing mode relation) (codes "left" ++ text.now) number result }
+{
+    let Relation {
+        mut left,
+        right,
+        pairs,
+    } = relation;
+    if !right.as_slice().is_empty() {
+        return Err(CertError::Line(number));
+    }
+    if !pairs.as_slice().is_empty() {
+        return Err(CertError::Line(number));
+    }
+    let states = list_of(alloc, text, imp_states, number)?;
+    left.push(states)?;
+    Ok(Stage::Pairing(mode, Relation { left, right, pairs }))
+}
+
+fn add_right(
+    alloc: Global,
+    mode: Mode,
+    relation: Relation,
+    text: &[u8],
+    spec_states: u32,
+    number: u32,
+) -> Result<Stage, CertError>
+    ensures { (a : Alphabet) (imp : ℕ) → Reads a imp spec_states (Stage.Pairing mode relation) (codes "right" ++ text.now) number result }
+{
+    let Relation {
+        left,
+        mut right,
+        pairs,
+    } = relation;
+    if !pairs.as_slice().is_empty() {
+        return Err(CertError::Line(number));
+    }
+    let states = list_of(alloc, text, spec_states, number)?;
+    right.push(states)?;
+    Ok(Stage::Pairing(mode, Relation { left, right, pairs }))
+}
+
+fn add_pair(mode: Mode, relation: Relation, text: &[u8], number: u32) -> Result<Stage, CertError>
+    requires left { length relation.left < 2 ^ 32 }
+    requires right { length relation.right < 2 ^ 32 }
+    ensures { (a : Alphabet) (imp spec : ℕ) → Reads a imp spec (Stage.Pairing mode relation) (codes "pair" ++ text.now) number result }
+{
+    let Relation {
+        left,
+        right,
+        mut pairs,
+    } = relation;
+    let Some(pair) = pair_in(text, left.as_slice().len(), right.as_slice().len()) else {
+        return Err(CertError::Line(number));
+    };
+    pairs.push(pair)?;
+    Ok(Stage::Pairing(mode, Relation { left, right, pairs }))
+}
+
+/// The pair of places from 0 that the text names from 1, among so many on the left and on the right.
+fn pair_in(text: &[u8], lefts: usize, rights: usize) -> Option<(u32, u32)>
+    requires left { lefts < 2 ^ 32 }
+    requires right { rights < 2 ^ 32 }
+    ensures { MatchOption result ((i j : ℕ) → i < lefts → j < rights → text.now ≡ spaced (decimal (i + 1) ∷ decimal (j + 1) ∷ []) → ⊥) (λ p. (p.0 < lefts) × (p.1 < rights) × (text.now ≡ spaced (decimal (p.0 + 1) ∷ decimal (p.1 + 1) ∷ []))) }
+{
+    let Some((first, others)) = next_piece(text) else {
+        return None;
+    };
+    let Some((second, rest)) = next_piece(others) else {
+        return None;
+    };
+    if !rest.is_empty() {
+        return None;
+    }
+    let Some(left) = place_in(first, lefts) else {
+        return None;
+    };
+    let Some(right) = place_in(second, rights) else {
+        return None;
+    };
+    Some((left, right))
+}
+
+fn end_relation(
+    mode: Mode,
+    relation: Relation,
+    text: &[u8],
+    number: u32,
+) -> Result<Stage, CertError>
+    ensures { (a : Alphabet) (imp spec : ℕ) → Reads a imp spec (Stage.Pairing mode relation) (codes "end" ++ text.now) number result }
+{
+    if !is_end(text, relation.pairs.as_slice().len()) {
+        return Err(CertError::Line(number));
+    }
+    Ok(Stage::Ended(Cert {
+        mode,
+        body: CertBody::Related(relation),
+    }))
+}
+
+/// Whether the text is this number after a space.
+pub fn is_end(text: &[u8], count: usize) -> bool
+    ensures { IsTrue result ↔ text.now ≡ spaced (decimal count ∷ []) }
+{
+    let Some((piece, rest)) = next_piece(text) else {
+        return false;
+    };
+    if !rest.is_empty() {
+        return false;
+    }
+    is_count(piece, count)
+}

@@ -1,0 +1,89 @@
+-- When `check` answers that the implementation conforms, and when that it doesn't, for two files that can be compared.
+use Rattle.std.specs.Prelude.{◌≡◌, ℕ, ◌<◌, ◌≤◌, List, [], ◌∷◌, length, Some, ◌⊎◌}
+use Rattle.lts_base.specs.declared.item.Item.{Item}
+use Rattle.lts_base.specs.declared.sorting.Rule.{Rule}
+use Rattle.lts_base.specs.declared.sorting.Rule.TheVariants.{Prefix, Suffix, Listed}
+use Rattle.lts_base.specs.System.{System, label_count}
+use Rattle.lts_base.specs.Alphabet.{Alphabet}
+use Rattle.lts_base.specs.Raw.{RawSystem}
+use Rattle.lts_base.specs.Shape.{IsConvergent}
+use Rattle.lts_base.specs.Conformance.{IsConforming}
+use Rattle.lts_base.specs.Order.{IsAtMost, IsFirstViolation}
+use Rattle.lts_base.specs.Reached.{Row, trace_at, AreFirstPairs, IsWithin}
+use Rattle.conf_decide.specs.declared.answer.What.{What}
+use Rattle.text_scan.specs.Listing.{IsListing}
+use Rattle.torx_words.specs.Asked.{AskedSorting, by_prefix, by_suffix, by_list, AskedCheck}
+use Rattle.torx_tool.specs.declared.status.Status.{Status}
+use Rattle.torx_tool.specs.declared.status.Status.TheVariants.{Conforms, Violates, Undecided, TooLong, BadFile, FileFault, OutFault, Memory}
+use Rattle.torx_tool.specs.Causes.{Told, IsReadAs, IsFaultySystem, IsSplit, IsEnabledFor, limits_of}
+
+-- memory ran out, the output failed, or a file couldn't be read: the only answers that the contents of the files don't decide
+abbrev pub IsFailure : Status → Type 0
+IsFailure Memory = Unit {0}
+IsFailure OutFault = Unit {0}
+IsFailure (FileFault name) = Unit {0}
+IsFailure other = ⊥
+
+-- the systems conform, or don't, or a limit was passed
+abbrev pub IsVerdict : Status → Type 0
+IsVerdict (Conforms pairs) = Unit {0}
+IsVerdict (Violates trace shown) = Unit {0}
+IsVerdict (Undecided what reached depth) = Unit {0}
+IsVerdict other = ⊥
+
+-- the content of the file of this name is told, has at most 67,108,864 bytes, and is so
+pub record Tells (content : Told) (name : List ℕ) (is : List ℕ → Type 0) : Type 0 where
+  pub c : List ℕ
+  pub told : content name ≡ Some c
+  pub short : length c ≤ 67108864
+  pub is_so : is c
+
+-- the content of the file of this name is told, and is longer than 67,108,864 bytes, or isn't and has this fault
+abbrev pub ToldRefusal : Told → List ℕ → Status → Type 0
+ToldRefusal content name (TooLong named) = (named ≡ name) × ((c : List ℕ) × (content name ≡ Some c) × (67108864 < length c))
+ToldRefusal content name (BadFile named error) = (named ≡ name) × Tells content name (λ c. IsFaultySystem c error)
+ToldRefusal content name other = ⊥
+
+-- the file of the specification is told to be refused for this; or it is told and read, and that of the implementation is so
+abbrev pub IsToldRefusal : Told → AskedCheck → Status → Type 0
+IsToldRefusal content asked status = ToldRefusal content asked.spec status ⊎
+    (((raw : RawSystem) × Tells content asked.spec (λ c. IsReadAs c raw)) × ToldRefusal content asked.imp status)
+
+-- the rule by which labels are sorted is told
+abbrev pub TellsRule : Told → AskedSorting → Rule → Type 0
+TellsRule content by_prefix rule = rule ≡ Prefix
+TellsRule content by_suffix rule = rule ≡ Suffix
+TellsRule content (by_list name) rule = (inputs : List (List ℕ)) × Tells content name (λ c. IsListing c inputs) × (rule ≡ Listed inputs)
+
+-- the files that are asked for are told and can be compared: they are read as the systems s and i over one alphabet, which are
+-- convergent, and i is input-enabled, if it has to be
+pub record IsComparable (content : Told) (asked : AskedCheck) (s i : System) : Type 0 where
+  pub spec : RawSystem
+  pub imp : RawSystem
+  pub rule : Rule
+  pub alphabet : Alphabet
+  pub spec_read : Tells content asked.spec (λ c. IsReadAs c spec)
+  pub imp_read : Tells content asked.imp (λ c. IsReadAs c imp)
+  pub ruled : TellsRule content asked.sorting rule
+  pub split : IsSplit rule (spec ∷ imp ∷ []) alphabet (s ∷ i ∷ [])
+  pub spec_convergent : IsConvergent s
+  pub imp_convergent : IsConvergent i
+  pub enabled : IsEnabledFor asked i
+
+-- no front of the reached pairs passes the limits
+abbrev pub HasRoom : AskedCheck → System → System → Type 0
+HasRoom asked s i = (rows : List Row) (traces : List (List Item)) → AreFirstPairs asked.mode i s rows traces → IsWithin (limits_of asked) rows
+
+-- no front of the reached pairs whose least traces come up to this one passes the limits
+abbrev pub HasRoomUpTo : AskedCheck → System → System → List Item → Type 0
+HasRoomUpTo asked s i σ = (rows : List Row) (traces : List (List Item)) → AreFirstPairs asked.mode i s rows traces →
+    ((k : ℕ) → k < length rows → IsAtMost (label_count s) (trace_at traces k) σ) → IsWithin (limits_of asked) rows
+
+-- but for failures the answer says whether i conforms to s, and else the first violation; it leaves this open only past the limits
+pub record IsSettled (asked : AskedCheck) (s i : System) (status : Status) : Type 0 where
+  pub answered : IsVerdict status ⊎ IsFailure status
+  pub conforms : IsConforming asked.mode i s → HasRoom asked s i → ((n : ℕ) × (status ≡ Conforms n)) ⊎ IsFailure status
+  pub violates : (σ : List Item) (x : Item) → IsFirstViolation asked.mode i s σ x → HasRoomUpTo asked s i σ → (status ≡ Violates σ x) ⊎ IsFailure status
+  pub is_conforming : (n : ℕ) → status ≡ Conforms n → IsConforming asked.mode i s
+  pub is_first : (σ : List Item) (x : Item) → status ≡ Violates σ x → IsFirstViolation asked.mode i s σ x
+  pub is_cut : (what : What) (reached depth : ℕ) → status ≡ Undecided what reached depth → HasRoom asked s i → ⊥
