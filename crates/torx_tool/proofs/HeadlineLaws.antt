@@ -1,5 +1,5 @@
 -- For files that can be compared `check` answers what is so, and nothing else but for failures.
-use Rattle.std.proofs.Common.{◌≡◌, ◌∙◌, ℕ, ◌<◌, ◌≤◌, List, [], ◌∷◌, length, Option, Err, All, inl, inr, refl, sym, ap, subst, arith, ◌⊎◌}
+use Rattle.std.proofs.Common.{◌≡◌, ◌∙◌, ℕ, ◌<◌, ◌≤◌, true, List, [], ◌∷◌, length, Option, Err, All, inl, inr, refl, sym, ap, subst, arith, ◌⊎◌}
 use Rattle.std.proofs.lemmas.List.Elements.{All-contains}
 use Rattle.std.specs.Option.{IfSome}
 use Rattle.lts_base.specs.declared.item.Item.{Item}
@@ -16,6 +16,7 @@ use Rattle.lts_base.specs.Sorting.{IsAlphabetOf}
 use Rattle.lts_base.specs.Order.{place, IsAtMost, IsFirstViolation}
 use Rattle.lts_base.specs.Reached.{Row, IsWithin}
 use Rattle.lts_base.proofs.OrderLaws.{IsBefore-trans, IsBefore-irreflexive}
+use Rattle.lts_shape.specs.Inputs.{IsFirstMissing}
 use Rattle.lts_shape.proofs.CycleLaws.{IsTauCycle-diverges}
 use Rattle.text_scan.specs.Listing.{IsListing}
 use Rattle.text_scan.proofs.ListingOnce.{listing_only}
@@ -29,9 +30,9 @@ use Rattle.torx_words.specs.Asked.{AskedSorting, by_prefix, by_suffix, by_list, 
 use Rattle.torx_tool.specs.declared.status.FileError.{FileError}
 use Rattle.torx_tool.specs.declared.status.FileError.TheVariants.{Aut, Lines, UnknownLabel}
 use Rattle.torx_tool.specs.declared.status.Status.{Status}
-use Rattle.torx_tool.specs.declared.status.Status.TheVariants.{Violates, Usage, TooLong, BadFile, BadLabels, Divergent, NotEnabled, FileFault, Memory}
+use Rattle.torx_tool.specs.declared.status.Status.TheVariants.{Violates, Usage, TooLong, BadFile, BadLabels, Divergent, NotEnabled, FileFault}
 use Rattle.torx_tool.specs.Causes.{World, Told, Holds, RefusesFile, IsReadAs, IsFaultySystem, IsFaultyList, RefusesSystems, IsRule, RefusesRule, RefusesLabels, IsCycleOf, IsDiverging, IsRefused, IsInput, IsSplit, RefusesInput, reported, limits_of, IsNotEnabled, IsEnabledFor, IsComparison, IsCheckedFor, IsUsage, IsAnswer}
-use Rattle.torx_tool.specs.Headline.{IsFailure, Tells, TellsRule, IsComparable, HasRoom, HasRoomUpTo, IsSettled}
+use Rattle.torx_tool.specs.Headline.{IsFailure, Tells, TellsRule, AreLoaded, IsComparable, HasRoom, HasRoomUpTo, IsSettled}
 use Rattle.torx_tool.proofs.WordsOnce.{asked_once, no_outs, no_angelic, asked_stands}
 use Rattle.torx_tool.proofs.RoomLaws.{cut_up_to}
 use Rattle.torx_tool.proofs.ReadOnce.{memory_alone, ArePairs, pairs_alphabet, pairs_split}
@@ -56,25 +57,25 @@ aut_fine c raw is (Lines error) h = h
 aut_fine c raw is (UnknownLabel n) h = h
 
 -- a list of labels has no fault
-list_fine : (c : List ℕ) (inputs : List (List ℕ)) → IsListing c inputs → (e : FileError) → IsFaultyList c e → ⊥
+pub list_fine : (c : List ℕ) (inputs : List (List ℕ)) → IsListing c inputs → (e : FileError) → IsFaultyList c e → ⊥
 list_fine c inputs is (Aut error) h = h
 list_fine c inputs is (Lines error) h = h.1 (listing_only c inputs (Err error) h.0 is)
 list_fine c inputs is (UnknownLabel n) h = h
 
 -- the two files of systems are refused for a failure alone
-systems_stand : (w : World) (asked : AskedCheck) (s i : System) (status : Status) → IsComparable w.content asked s i → RefusesSystems w (asked.spec ∷ asked.imp ∷ []) status → IsFailure status
+systems_stand : (w : World) (asked : AskedCheck) (s i : System) (status : Status) → AreLoaded w.content asked s i → RefusesSystems w (asked.spec ∷ asked.imp ∷ []) status → IsFailure status
 systems_stand w asked s i status files (inl h) = file_stands w IsFaultySystem (λ c. IsReadAs c files.spec) asked.spec status files.spec_read (aut_fine files.spec_read.c files.spec files.spec_read.is_so) h
 systems_stand w asked s i status files (inr (read, inl h)) = file_stands w IsFaultySystem (λ c. IsReadAs c files.imp) asked.imp status files.imp_read (aut_fine files.imp_read.c files.imp files.imp_read.is_so) h
 systems_stand w asked s i status files (inr (read, inr h)) = absurd h.1
 
 -- the list of inputs is refused for a failure alone
-rule_stands : (w : World) (sorting : AskedSorting) (rule : Rule) (status : Status) → TellsRule w.content sorting rule → RefusesRule w sorting status → IsFailure status
+pub rule_stands : (w : World) (sorting : AskedSorting) (rule : Rule) (status : Status) → TellsRule w.content sorting rule → RefusesRule w sorting status → IsFailure status
 rule_stands w by_prefix rule status told h = absurd h
 rule_stands w by_suffix rule status told h = absurd h
 rule_stands w (by_list name) rule status (inputs, listed, is) h = file_stands w IsFaultyList (λ c. IsListing c inputs) name status listed (list_fine listed.c inputs listed.is_so) h
 
 -- there is one rule
-rule_once : (content : Told) (sorting : AskedSorting) (rule other : Rule) → TellsRule content sorting rule → IsRule content sorting other → other ≡ rule
+pub rule_once : (content : Told) (sorting : AskedSorting) (rule other : Rule) → TellsRule content sorting rule → IsRule content sorting other → other ≡ rule
 rule_once content by_prefix rule other told is = is ∙ sym told
 rule_once content by_suffix rule other told is = is ∙ sym told
 rule_once content (by_list name) rule other (inputs, listed, told) (more, read, is) =
@@ -87,7 +88,7 @@ labels_stand rule raws a (BadLabels error) is h = h.1 (memory_alone rule raws a 
 labels_stand rule raws a other is h = h
 
 -- what is read of the two files is what is told of them, but for the numbers of labels
-pairs_of : (content : Told) (asked : AskedCheck) (s i : System) (one two : RawSystem) → (files : IsComparable content asked s i) → Holds content asked.spec (λ c. IsReadAs c one) → Holds content asked.imp (λ c. IsReadAs c two) →
+pairs_of : (content : Told) (asked : AskedCheck) (s i : System) (one two : RawSystem) → (files : AreLoaded content asked s i) → Holds content asked.spec (λ c. IsReadAs c one) → Holds content asked.imp (λ c. IsReadAs c two) →
     ArePairs files.spec files.imp one two
 pairs_of content asked s i one two files first second =
     let spec : IsReadAs files.spec_read.c one = told_is content asked.spec (λ c. IsReadAs c files.spec) (λ c. IsReadAs c one) files.spec_read first in
@@ -102,7 +103,7 @@ pairs_of content asked s i one two files first second =
     }
 
 -- the labels of what is read of the two files can be sorted
-input_sorted : (content : Told) (asked : AskedCheck) (s i : System) (raws : List RawSystem) (rule : Rule) (status : Status) → IsComparable content asked s i → IsInput content (asked.spec ∷ asked.imp ∷ []) asked.sorting raws rule → RefusesLabels rule raws status → ⊥
+input_sorted : (content : Told) (asked : AskedCheck) (s i : System) (raws : List RawSystem) (rule : Rule) (status : Status) → AreLoaded content asked s i → IsInput content (asked.spec ∷ asked.imp ∷ []) asked.sorting raws rule → RefusesLabels rule raws status → ⊥
 input_sorted content asked s i [] rule status files input h = absurd input.read
 input_sorted content asked s i (one ∷ []) rule status files input h = absurd input.read.1
 input_sorted content asked s i (one ∷ two ∷ x ∷ more) rule status files input h = absurd input.read.1.1
@@ -112,14 +113,14 @@ input_sorted content asked s i (one ∷ two ∷ []) rule status files input h =
     labels_stand files.rule (one ∷ two ∷ []) files.alphabet status (pairs_alphabet files.rule files.spec files.imp one two files.alphabet pairs files.split.alphabet)
     (subst (λ (r : Rule). RefusesLabels r (one ∷ two ∷ []) status) same h)
 
--- files that can be compared are refused for a failure alone
-input_stands : (w : World) (asked : AskedCheck) (s i : System) (status : Status) → IsComparable w.content asked s i → RefusesInput w (asked.spec ∷ asked.imp ∷ []) asked.sorting status → IsFailure status
+-- files that are loaded are refused for a failure alone
+input_stands : (w : World) (asked : AskedCheck) (s i : System) (status : Status) → AreLoaded w.content asked s i → RefusesInput w (asked.spec ∷ asked.imp ∷ []) asked.sorting status → IsFailure status
 input_stands w asked s i status files (inl h) = systems_stand w asked s i status files h
 input_stands w asked s i status files (inr (inl (raws, read, h))) = rule_stands w asked.sorting files.rule status files.ruled h
 input_stands w asked s i status files (inr (inr (raws, rule, input, h))) = absurd (input_sorted w.content asked s i raws rule status files input h)
 
 -- the systems that are compared are these two
-systems_once : (content : Told) (asked : AskedCheck) (s i : System) (raws : List RawSystem) (rule : Rule) (a : Alphabet) (systems : List System) → IsComparable content asked s i → IsInput content (asked.spec ∷ asked.imp ∷ []) asked.sorting raws rule →
+systems_once : (content : Told) (asked : AskedCheck) (s i : System) (raws : List RawSystem) (rule : Rule) (a : Alphabet) (systems : List System) → AreLoaded content asked s i → IsInput content (asked.spec ∷ asked.imp ∷ []) asked.sorting raws rule →
     IsSplit rule raws a systems → systems ≡ s ∷ i ∷ []
 systems_once content asked s i [] rule a systems files input split = absurd input.read
 systems_once content asked s i (one ∷ []) rule a systems files input split = absurd input.read.1
@@ -143,22 +144,49 @@ not_lacking asked i other enabled h = h
 abbrev IsRight : AskedCheck → System → System → Status → Type 0
 IsRight asked s i status = (answer : Answer) × IsDecided asked.mode (limits_of asked) i s answer × (status ≡ reported answer)
 
--- two convergent systems are compared
-compared : (asked : AskedCheck) (a : Alphabet) (s i : System) (status : Status) (text : List ℕ) → IsConvergent s → IsConvergent i → IsEnabledFor asked i →
-    IsRefused (IsDiverging (asked.spec ∷ asked.imp ∷ []) (s ∷ i ∷ [])) status text ⊎ (All IsConvergent (s ∷ i ∷ []) × IsComparison asked a (s ∷ i ∷ []) status text) → IsRight asked s i status
-compared asked a s i status text first second enabled (inl (inl cycle, says)) = absurd (no_cycle asked.spec s status first cycle)
-compared asked a s i status text first second enabled (inl (inr (convergent, inl cycle), says)) = absurd (no_cycle asked.imp i status second cycle)
-compared asked a s i status text first second enabled (inl (inr (convergent, inr none), says)) = absurd none.1
-compared asked a s i status text first second enabled (inr (convergent, inl (lacks, says))) = absurd (not_lacking asked i status enabled lacks)
-compared asked a s i status text first second enabled (inr (convergent, inr (able, (answer, decided, is, says)))) = (answer, decided, is)
+-- the implementation isn't input-enabled, though it has to be; or else this is the right answer
+abbrev IsOutcome : AskedCheck → System → System → Status → Type 0
+IsOutcome asked s i status = IsNotEnabled asked i status ⊎ (IsEnabledFor asked i × IsRight asked s i status)
 
--- what is answered for files that can be compared is right, or a failure
-checked : (w : World) (asked : AskedCheck) (s i : System) (status : Status) (text : List ℕ) → IsComparable w.content asked s i → IsCheckedFor w asked status text → IsFailure status ⊎ IsRight asked s i status
+-- two convergent systems are compared
+compared : (asked : AskedCheck) (a : Alphabet) (s i : System) (status : Status) (text : List ℕ) → IsConvergent s → IsConvergent i →
+    IsRefused (IsDiverging (asked.spec ∷ asked.imp ∷ []) (s ∷ i ∷ [])) status text ⊎ (All IsConvergent (s ∷ i ∷ []) × IsComparison asked a (s ∷ i ∷ []) status text) → IsOutcome asked s i status
+compared asked a s i status text first second (inl (inl cycle, says)) = absurd (no_cycle asked.spec s status first cycle)
+compared asked a s i status text first second (inl (inr (convergent, inl cycle), says)) = absurd (no_cycle asked.imp i status second cycle)
+compared asked a s i status text first second (inl (inr (convergent, inr none), says)) = absurd none.1
+compared asked a s i status text first second (inr (convergent, inl (lacks, says))) = inl lacks
+compared asked a s i status text first second (inr (convergent, inr (able, (answer, decided, is, says)))) = inr (able, (answer, decided, is))
+
+-- what is answered for files that are loaded
+checked : (w : World) (asked : AskedCheck) (s i : System) (status : Status) (text : List ℕ) → AreLoaded w.content asked s i → IsCheckedFor w asked status text → IsFailure status ⊎ IsOutcome asked s i status
 checked w asked s i status text files (inl (refused, says)) = inl (input_stands w asked s i status files refused)
 checked w asked s i status text files (inr (raws, rule, a, systems, input, split, h)) =
     let same : systems ≡ s ∷ i ∷ [] = systems_once w.content asked s i raws rule a systems files input split in
-    inr (compared asked a s i status text files.spec_convergent files.imp_convergent files.enabled
+    inr (compared asked a s i status text files.spec_convergent files.imp_convergent
     (subst (λ (ss : List System). IsRefused (IsDiverging (asked.spec ∷ asked.imp ∷ []) ss) status text ⊎ (All IsConvergent ss × IsComparison asked a ss status text)) same h))
+
+-- a system lacks one first input
+missing_once : (asked : AskedCheck) (i : System) (state input : ℕ) (status : Status) → IsFirstMissing i i.inputs state input → IsNotEnabled asked i status → status ≡ NotEnabled asked.imp state input
+missing_once asked i state input (NotEnabled name q a) first (asks, named, missing) =
+    let down = first.state q a missing.ends missing.input missing.lacks in
+    let up = missing.state state input first.ends first.input first.lacks in
+    let same : q ≡ state = omega (arith, down, up) in
+    let here : IsFirstMissing i i.inputs state a = subst (λ (p : ℕ). IsFirstMissing i i.inputs p a) same missing in
+    let below = first.least a here.input here.lacks in
+    let above = here.least input first.input first.lacks in
+    let meets : a ≡ input = omega (arith, below, above) in
+    ap (λ (n : List ℕ). NotEnabled n q a) named ∙ ap (λ (p : ℕ). NotEnabled asked.imp p a) same ∙ ap (λ (b : ℕ). NotEnabled asked.imp state b) meets
+missing_once asked i state input other first h = absurd h
+
+-- an implementation that lacks an input isn't input-enabled
+not_enabled : (asked : AskedCheck) (i : System) (state input : ℕ) → IsFirstMissing i i.inputs state input → asked.enabled ≡ true → IsEnabledFor asked i → ⊥
+not_enabled asked i state input missing asks enabled = let (σ, ends) = missing.ends in missing.lacks (enabled asks σ state ends input missing.input)
+
+-- an implementation that has to be input-enabled, and lacks an input, is answered so
+lacking : (asked : AskedCheck) (s i : System) (state input : ℕ) (status : Status) → IsFirstMissing i i.inputs state input → asked.enabled ≡ true → IsFailure status ⊎ IsOutcome asked s i status → (status ≡ NotEnabled asked.imp state input) ⊎ IsFailure status
+lacking asked s i state input status missing asks (inl failure) = inr failure
+lacking asked s i state input status missing asks (inr (inl lacks)) = inl (missing_once asked i state input status missing lacks)
+lacking asked s i state input status missing asks (inr (inr (able, right))) = absurd (not_enabled asked i state input missing asks able)
 
 -- traces that come before each other, or are the same, are the same
 trace_once : (n : ℕ) (σ τ : List Item) → IsAtMost n σ τ → IsAtMost n τ σ → σ ≡ τ
@@ -260,12 +288,14 @@ same_labels rule raws a s i split =
 
 -- what is answered for files that can be compared settles the matter
 settled : (w : World) (asked : AskedCheck) (s i : System) (status : Status) (text : List ℕ) → IsComparable w.content asked s i → IsCheckedFor w asked status text → IsSettled asked s i status
-settled w asked s i status text files h = elim (checked w asked s i status text files h) [
+settled w asked s i status text files h = elim (checked w asked s i status text files.loaded h) [
   | inl failure ↦ failed asked s i status failure
-  | inr (answer, decided, is) ↦
-      let spec : IsSystem s = files.split.sound 0 s (omega arith) in
-      let sound : IsSystem i = files.split.sound 1 s (omega arith) in
-      subst (λ (st : Status). IsSettled asked s i st) (sym is) (right asked s i answer spec sound (same_labels files.rule (files.spec ∷ files.imp ∷ []) files.alphabet s i files.split) decided)
+  | inr (inl lacks) ↦ absurd (not_lacking asked i status files.enabled lacks)
+  | inr (inr (able, (answer, decided, is))) ↦
+      let split = files.loaded.split in
+      let spec : IsSystem s = split.sound 0 s (omega arith) in
+      let sound : IsSystem i = split.sound 1 s (omega arith) in
+      subst (λ (st : Status). IsSettled asked s i st) (sym is) (right asked s i answer spec sound (same_labels files.loaded.rule (files.loaded.spec ∷ files.loaded.imp ∷ []) files.loaded.alphabet s i split) decided)
 ]
 
 -- words that ask for `check` aren't refused
@@ -273,16 +303,27 @@ pub no_usage : (words : List (List ℕ)) (asked : AskedCheck) (status : Status) 
 no_usage words asked (Usage kind) ask h = asked_stands words kind asked ask h
 no_usage words asked other ask h = h
 
--- memory ran out
-out_of_memory : (asked : AskedCheck) (s i : System) (status : Status) → status ≡ Memory → IsSettled asked s i status
-out_of_memory asked s i status is = failed asked s i status (subst IsFailure (sym is) tt)
+-- what is answered to words that ask for `check`
+pub check_answer : (w : World) (words : List (List ℕ)) (status : Status) (text : List ℕ) → IsAnswer w words status text → (asked : AskedCheck) → AskToCheck words asked → IsFailure status ⊎ IsCheckedFor w asked status text
+check_answer w words status text (inl memory) asked ask = inl (subst IsFailure (sym memory) tt)
+check_answer w words status text (inr (inl (usage, says))) asked ask = absurd (no_usage words asked status ask usage)
+check_answer w words status text (inr (inr (inl (other, ask_other, h)))) asked ask =
+    let same : other ≡ asked = asked_once words other asked ask_other ask in
+    inr (subst (λ (c : AskedCheck). IsCheckedFor w c status text) same h)
+check_answer w words status text (inr (inr (inr (inl (other, ask_other, h))))) asked ask = absurd (no_outs words asked other ask ask_other)
+check_answer w words status text (inr (inr (inr (inr (other, ask_other, h))))) asked ask = absurd (no_angelic words asked other ask ask_other)
 
 -- what `check` answers for files that can be compared settles the matter
 pub headline : (w : World) (words : List (List ℕ)) (status : Status) (text : List ℕ) → IsAnswer w words status text → (asked : AskedCheck) (s i : System) → AskToCheck words asked → IsComparable w.content asked s i → IsSettled asked s i status
-headline w words status text (inl memory) asked s i ask files = out_of_memory asked s i status memory
-headline w words status text (inr (inl (usage, says))) asked s i ask files = absurd (no_usage words asked status ask usage)
-headline w words status text (inr (inr (inl (other, ask_other, h)))) asked s i ask files =
-    let same : other ≡ asked = asked_once words other asked ask_other ask in
-    settled w asked s i status text files (subst (λ (c : AskedCheck). IsCheckedFor w c status text) same h)
-headline w words status text (inr (inr (inr (inl (other, ask_other, h))))) asked s i ask files = absurd (no_outs words asked other ask ask_other)
-headline w words status text (inr (inr (inr (inr (other, ask_other, h))))) asked s i ask files = absurd (no_angelic words asked other ask ask_other)
+headline w words status text answer asked s i ask files = elim (check_answer w words status text answer asked ask) [
+  | inl failure ↦ failed asked s i status failure
+  | inr h ↦ settled w asked s i status text files h
+]
+
+-- what `check` answers for an implementation that has to be input-enabled, and lacks an input
+pub not_enabled_told : (w : World) (words : List (List ℕ)) (status : Status) (text : List ℕ) → IsAnswer w words status text → (asked : AskedCheck) (s i : System) (state input : ℕ) → AskToCheck words asked → AreLoaded w.content asked s i → asked.enabled ≡ true →
+    IsFirstMissing i i.inputs state input → (status ≡ NotEnabled asked.imp state input) ⊎ IsFailure status
+not_enabled_told w words status text answer asked s i state input ask files asks missing = elim (check_answer w words status text answer asked ask) [
+  | inl failure ↦ inr failure
+  | inr h ↦ lacking asked s i state input status missing asks (checked w asked s i status text files h)
+]

@@ -7,6 +7,7 @@ mod RunLaws
 mod WordsOnce
 mod UsageOnce
 mod ReadOnce
+mod LabelsOnce
 mod RoomLaws
 mod HeadlineLaws
 mod ToldLaws

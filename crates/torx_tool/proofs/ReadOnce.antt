@@ -28,11 +28,11 @@ pub says_back : (r q : RawSystem) → SaysSame r q → SaysSame q r
 says_back r q says = record { states = sym says.states; start = sym says.start; moves = sym says.moves }
 
 -- they have as many moves
-same_long : (r q : RawSystem) → SaysSame r q → length r.moves ≡ length q.moves
+pub same_long : (r q : RawSystem) → SaysSame r q → length r.moves ≡ length q.moves
 same_long r q says = sym (length-map r.moves (named r.labels)) ∙ ap length (sym says.moves) ∙ length-map q.moves (named q.labels)
 
 -- moves of one number are the same by the texts of their labels
-same_move : (r q : RawSystem) → SaysSame r q → (k : ℕ) → k < length r.moves → named r.labels (raw_move_at r.moves k) ≡ named q.labels (raw_move_at q.moves k)
+pub same_move : (r q : RawSystem) → SaysSame r q → (k : ℕ) → k < length r.moves → named r.labels (raw_move_at r.moves k) ≡ named q.labels (raw_move_at q.moves k)
 same_move r q says k below =
     let low : k < length q.moves = omega (arith, below, same_long r q says) in
     sym (get_or-map (named r.labels) r.moves k (record { from = 0; label = None; to = 0 }) named_0 below) ∙
@@ -40,7 +40,7 @@ same_move r q says k below =
     get_or-map (named q.labels) q.moves k (record { from = 0; label = None; to = 0 }) named_0 low
 
 -- a move carries none but a label of its system
-raw_carried : (r : RawSystem) → IsRaw r → (k : ℕ) → k < length r.moves → IsActOf (length r.labels) (raw_act (raw_move_at r.moves k).label)
+pub raw_carried : (r : RawSystem) → IsRaw r → (k : ℕ) → k < length r.moves → IsActOf (length r.labels) (raw_act (raw_move_at r.moves k).label)
 raw_carried r raw k below =
     let d : RawMove = record { from = 0; label = None; to = 0 } in
     let moved : get_or (map as_move r.moves) k (as_move d) ≡ as_move (get_or r.moves k d) = get_or-map as_move r.moves k d (as_move d) below in
@@ -134,7 +134,7 @@ system_once a r s t alphabet sound other one two =
     same_parts s t (two.states ∙ sym one.states) (two.start ∙ sym one.start) (two.inputs ∙ sym one.inputs) (two.outputs ∙ sym one.outputs) moves
 
 -- what is sorted nowhere isn't sorted
-not_some : (o : Option Bool) → o ≡ None → IsSome o → ⊥
+pub not_some : (o : Option Bool) → o ≡ None → IsSome o → ⊥
 not_some None e some = cc some
 not_some (Some b) e some = cc e
 

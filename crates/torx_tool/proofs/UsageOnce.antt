@@ -9,11 +9,7 @@ use Rattle.torx_tool.specs.declared.status.Status.{Status}
 use Rattle.torx_tool.specs.declared.status.Status.TheVariants.{Usage, Memory}
 use Rattle.torx_tool.specs.Causes.{World, IsUsage, IsAnswer}
 use Rattle.torx_tool.specs.Headline.{IsFailure}
-use Rattle.torx_tool.proofs.WordsOnce.{given_once, given_some, words_once, check_outs, check_angelic, asked_stands}
-
--- the other two commands differ
-outs_angelic : codes "outs" ≡ codes "angelic" → ⊥
-outs_angelic e = cc
+use Rattle.torx_tool.proofs.WordsOnce.{given_once, given_some, words_once, check_outs, check_angelic, outs_angelic, asked_stands}
 
 -- what is read with a value that can't stand doesn't clash
 bad_clash : (shape : Shape) (bad : Reading → Type 0) (words : List (List ℕ)) → RefusesAfter shape bad words Value → RefusesAfter shape bad words Clash → ⊥
@@ -134,7 +130,7 @@ angelic_known command words x one unknown =
     false≢true (sym unknown ∙ subst (λ (c : List ℕ). is_command c ≡ true) (sym same.0) refl)
 
 -- words that ask for `outs` aren't refused
-outs_stand : (words : List (List ℕ)) (k : UsageKind) (x : AskedOuts) → AskForOuts words x → RefusesWords words k → ⊥
+pub outs_stand : (words : List (List ℕ)) (k : UsageKind) (x : AskedOuts) → AskForOuts words x → RefusesWords words k → ⊥
 outs_stand [] k x one refused = let e : [] ≡ codes "outs" ∷ one.others = one.words_are in cc
 outs_stand (command ∷ words) NoCommand x one refused = refused
 outs_stand (command ∷ words) UnknownCommand x one refused = outs_known command words x one refused
@@ -143,7 +139,7 @@ outs_stand (command ∷ words) Value x one refused = outs_after command words Va
 outs_stand (command ∷ words) Clash x one refused = outs_after command words Clash x one refused
 
 -- words that ask for `angelic` aren't refused
-angelic_stand : (words : List (List ℕ)) (k : UsageKind) (x : AskedAngelic) → AskToComplete words x → RefusesWords words k → ⊥
+pub angelic_stand : (words : List (List ℕ)) (k : UsageKind) (x : AskedAngelic) → AskToComplete words x → RefusesWords words k → ⊥
 angelic_stand [] k x one refused = let e : [] ≡ codes "angelic" ∷ one.others = one.words_are in cc
 angelic_stand (command ∷ words) NoCommand x one refused = refused
 angelic_stand (command ∷ words) UnknownCommand x one refused = angelic_known command words x one refused

@@ -1,10 +1,10 @@
--- Words ask `check` for one thing, and for nothing else.
+-- Words ask one command for one thing, and for nothing else.
 use Rattle.std.proofs.Common.{◌≡◌, ◌∙◌, ℕ, Bool, true, List, [], ◌∷◌, codes, Option, Some, None, inl, inr, refl, sym, ap, subst}
 use Rattle.std.proofs.lemmas.Bool.{false≢true}
 use Rattle.lts_base.specs.declared.item.Mode.{Mode}
 use Rattle.aut_text.proofs.OnceLaws.{decimal_once}
 use Rattle.torx_words.specs.Form.{Reading, reading_of, value_of}
-use Rattle.torx_words.specs.Asked.{AskedSorting, AskedCheck, AskedOuts, AskedAngelic, check_shape, IsNumber, IsNoNumber, IsBadCheck, AsksCheck, AskToCheck, AskForOuts, AskToComplete, RefusesCommand, RefusesWords, is_command}
+use Rattle.torx_words.specs.Asked.{AskedSorting, AskedCheck, AskedOuts, AskedAngelic, check_shape, outs_shape, angelic_shape, trace_files, AsksOuts, AsksAngelic, IsNumber, IsNoNumber, IsBadCheck, AsksCheck, AskToCheck, AskForOuts, AskToComplete, RefusesCommand, RefusesWords, is_command}
 use Rattle.torx_words.specs.declared.kind.UsageKind.{UsageKind}
 use Rattle.torx_words.specs.declared.kind.UsageKind.TheVariants.{NoCommand, UnknownCommand, Words, Value, Clash}
 
@@ -26,6 +26,9 @@ check_outs e = cc
 
 pub check_angelic : codes "check" ≡ codes "angelic" → ⊥
 check_angelic e = cc
+
+pub outs_angelic : codes "outs" ≡ codes "angelic" → ⊥
+outs_angelic e = cc
 
 -- an option gives one number
 number_once : (most usual : ℕ) (o : Option (List ℕ)) (n m : ℕ) → IsNumber most usual o n → IsNumber most usual o m → n ≡ m
@@ -70,6 +73,55 @@ no_outs words x y one other = check_outs ((words_once (codes "check") (codes "ou
 
 pub no_angelic : (words : List (List ℕ)) (x : AskedCheck) (y : AskedAngelic) → AskToCheck words x → AskToComplete words y → ⊥
 no_angelic words x y one other = check_angelic ((words_once (codes "check") (codes "angelic") words one.others other.others one.words_are other.words_are).0)
+
+-- a name and a list of others are each one
+names_once : (a b : List ℕ) (xs ys : List (List ℕ)) → a ∷ xs ≡ b ∷ ys → (a ≡ b) × (xs ≡ ys)
+names_once a b xs ys e = (cc, cc)
+
+-- the file of a trace is one, or none
+trace_file_once : (o p : Option (List ℕ)) → trace_files o ≡ trace_files p → o ≡ p
+trace_file_once None None e = refl
+trace_file_once None (Some b) e = absurd (cc e)
+trace_file_once (Some a) None e = absurd (cc e)
+trace_file_once (Some a) (Some b) e = let same : a ≡ b = cc in ap Some same
+
+-- what is read asks `outs` for one thing
+asks_outs : (r : Reading) (x y : AskedOuts) → AsksOuts r x → AsksOuts r y → x ≡ y
+asks_outs r x y one other =
+    let F : AskedSorting → Mode → List ℕ → Option (List ℕ) → AskedOuts = λ sorting mode spec trace. record { sorting = sorting; mode = mode; spec = spec; trace = trace } in
+    let sorting : x.sorting ≡ y.sorting = one.sorting ∙ sym other.sorting in
+    let mode : x.mode ≡ y.mode = one.mode ∙ sym other.mode in
+    let files = names_once x.spec y.spec (trace_files x.trace) (trace_files y.trace) (sym one.files ∙ other.files) in
+    ap (λ v. F v x.mode x.spec x.trace) sorting ∙ ap (λ v. F y.sorting v x.spec x.trace) mode ∙
+    ap (λ v. F y.sorting y.mode v x.trace) files.0 ∙ ap (F y.sorting y.mode y.spec) (trace_file_once x.trace y.trace files.1)
+
+-- what is read asks `angelic` for one thing
+asks_angelic : (r : Reading) (x y : AskedAngelic) → AsksAngelic r x → AsksAngelic r y → x ≡ y
+asks_angelic r x y one other =
+    let F : AskedSorting → List ℕ → AskedAngelic = λ sorting file. record { sorting = sorting; file = file } in
+    let sorting : x.sorting ≡ y.sorting = one.sorting ∙ sym other.sorting in
+    let files = names_once x.file y.file [] [] (sym one.files ∙ other.files) in
+    ap (λ v. F v x.file) sorting ∙ ap (F y.sorting) files.0
+
+-- words ask `outs` for one thing
+pub outs_once : (words : List (List ℕ)) (x y : AskedOuts) → AskForOuts words x → AskForOuts words y → x ≡ y
+outs_once words x y one other =
+    let same = words_once (codes "outs") (codes "outs") words one.others other.others one.words_are other.words_are in
+    let read : reading_of outs_shape other.others ≡ Some one.reading = subst (λ (ws : List (List ℕ)). reading_of outs_shape ws ≡ Some one.reading) same.1 one.read in
+    let reading : one.reading ≡ other.reading = given_once (reading_of outs_shape other.others) one.reading other.reading read other.read in
+    asks_outs other.reading x y (subst (λ (r : Reading). AsksOuts r x) reading one.asks) other.asks
+
+-- words ask `angelic` for one thing
+pub angelic_once : (words : List (List ℕ)) (x y : AskedAngelic) → AskToComplete words x → AskToComplete words y → x ≡ y
+angelic_once words x y one other =
+    let same = words_once (codes "angelic") (codes "angelic") words one.others other.others one.words_are other.words_are in
+    let read : reading_of angelic_shape other.others ≡ Some one.reading = subst (λ (ws : List (List ℕ)). reading_of angelic_shape ws ≡ Some one.reading) same.1 one.read in
+    let reading : one.reading ≡ other.reading = given_once (reading_of angelic_shape other.others) one.reading other.reading read other.read in
+    asks_angelic other.reading x y (subst (λ (r : Reading). AsksAngelic r x) reading one.asks) other.asks
+
+-- words that ask for `outs` don't ask for `angelic`
+pub outs_or_angelic : (words : List (List ℕ)) (x : AskedOuts) (y : AskedAngelic) → AskForOuts words x → AskToComplete words y → ⊥
+outs_or_angelic words x y one other = outs_angelic ((words_once (codes "outs") (codes "angelic") words one.others other.others one.words_are other.words_are).0)
 
 -- what is read and asks for something has no value that can't stand
 asks_good : (r : Reading) (x : AskedCheck) → AsksCheck r x → IsBadCheck r → ⊥

@@ -1,5 +1,7 @@
--- When `check` answers that the implementation conforms, and when that it doesn't, for two files that can be compared.
+-- What a command answers for files that are told to be refused; and for two files that can be compared, when `check` answers that
+-- the implementation conforms, and when that it doesn't.
 use Rattle.std.specs.Prelude.{◌≡◌, ℕ, ◌<◌, ◌≤◌, List, [], ◌∷◌, length, Some, ◌⊎◌}
+use Rattle.std.specs.List.{AllZip}
 use Rattle.lts_base.specs.declared.item.Item.{Item}
 use Rattle.lts_base.specs.declared.sorting.Rule.{Rule}
 use Rattle.lts_base.specs.declared.sorting.Rule.TheVariants.{Prefix, Suffix, Listed}
@@ -13,9 +15,10 @@ use Rattle.lts_base.specs.Reached.{Row, trace_at, AreFirstPairs, IsWithin}
 use Rattle.conf_decide.specs.declared.answer.What.{What}
 use Rattle.text_scan.specs.Listing.{IsListing}
 use Rattle.torx_words.specs.Asked.{AskedSorting, by_prefix, by_suffix, by_list, AskedCheck}
+use Rattle.torx_tool.specs.declared.status.FileError.{FileError}
 use Rattle.torx_tool.specs.declared.status.Status.{Status}
 use Rattle.torx_tool.specs.declared.status.Status.TheVariants.{Conforms, Violates, Undecided, TooLong, BadFile, FileFault, OutFault, Memory}
-use Rattle.torx_tool.specs.Causes.{Told, IsReadAs, IsFaultySystem, IsSplit, IsEnabledFor, limits_of}
+use Rattle.torx_tool.specs.Causes.{Told, IsReadAs, IsFaultySystem, IsFaultyList, RefusesLabels, IsSplit, IsEnabledFor, limits_of}
 
 -- memory ran out, the output failed, or a file couldn't be read: the only answers that the contents of the files don't decide
 abbrev pub IsFailure : Status → Type 0
@@ -39,15 +42,20 @@ pub record Tells (content : Told) (name : List ℕ) (is : List ℕ → Type 0) :
   pub is_so : is c
 
 -- the content of the file of this name is told, and is longer than 67,108,864 bytes, or isn't and has this fault
-abbrev pub ToldRefusal : Told → List ℕ → Status → Type 0
-ToldRefusal content name (TooLong named) = (named ≡ name) × ((c : List ℕ) × (content name ≡ Some c) × (67108864 < length c))
-ToldRefusal content name (BadFile named error) = (named ≡ name) × Tells content name (λ c. IsFaultySystem c error)
-ToldRefusal content name other = ⊥
+abbrev pub ToldRefusal : Told → (List ℕ → FileError → Type 0) → List ℕ → Status → Type 0
+ToldRefusal content faulty name (TooLong named) = (named ≡ name) × ((c : List ℕ) × (content name ≡ Some c) × (67108864 < length c))
+ToldRefusal content faulty name (BadFile named error) = (named ≡ name) × Tells content name (λ c. faulty c error)
+ToldRefusal content faulty name other = ⊥
 
--- the file of the specification is told to be refused for this; or it is told and read, and that of the implementation is so
-abbrev pub IsToldRefusal : Told → AskedCheck → Status → Type 0
-IsToldRefusal content asked status = ToldRefusal content asked.spec status ⊎
-    (((raw : RawSystem) × Tells content asked.spec (λ c. IsReadAs c raw)) × ToldRefusal content asked.imp status)
+-- the contents of these files are told, and are read as these raw systems
+abbrev pub AreTold : Told → List (List ℕ) → List RawSystem → Type 0
+AreTold content names raws = AllZip (λ name raw. Tells content name (λ c. IsReadAs c raw)) names raws
+
+-- the first of these files that is told to be refused, for this; those before it are told and read
+abbrev pub ToldSystems : Told → List (List ℕ) → Status → Type 0
+ToldSystems content [] cause = ⊥
+ToldSystems content (name ∷ names) cause = ToldRefusal content IsFaultySystem name cause ⊎
+    (((raw : RawSystem) × Tells content name (λ c. IsReadAs c raw)) × ToldSystems content names cause)
 
 -- the rule by which labels are sorted is told
 abbrev pub TellsRule : Told → AskedSorting → Rule → Type 0
@@ -55,9 +63,21 @@ TellsRule content by_prefix rule = rule ≡ Prefix
 TellsRule content by_suffix rule = rule ≡ Suffix
 TellsRule content (by_list name) rule = (inputs : List (List ℕ)) × Tells content name (λ c. IsListing c inputs) × (rule ≡ Listed inputs)
 
--- the files that are asked for are told and can be compared: they are read as the systems s and i over one alphabet, which are
--- convergent, and i is input-enabled, if it has to be
-pub record IsComparable (content : Told) (asked : AskedCheck) (s i : System) : Type 0 where
+-- the list of the inputs is told to be refused for this
+abbrev pub ToldList : Told → AskedSorting → Status → Type 0
+ToldList content by_prefix cause = ⊥
+ToldList content by_suffix cause = ⊥
+ToldList content (by_list name) cause = ToldRefusal content IsFaultyList name cause
+
+-- the files tell that there are no systems over one alphabet, and this is why: a file of a system is refused; or all are read,
+-- and the list of inputs is refused; or that is read too, and the labels can't be sorted
+abbrev pub ToldInput : Told → List (List ℕ) → AskedSorting → Status → Type 0
+ToldInput content names sorting cause = ToldSystems content names cause ⊎
+    (((raws : List RawSystem) × AreTold content names raws × ToldList content sorting cause) ⊎
+    ((raws : List RawSystem) × (rule : Rule) × AreTold content names raws × TellsRule content sorting rule × RefusesLabels rule raws cause))
+
+-- the files that are asked for are told, and are read as the convergent systems s and i over one alphabet
+pub record AreLoaded (content : Told) (asked : AskedCheck) (s i : System) : Type 0 where
   pub spec : RawSystem
   pub imp : RawSystem
   pub rule : Rule
@@ -68,6 +88,11 @@ pub record IsComparable (content : Told) (asked : AskedCheck) (s i : System) : T
   pub split : IsSplit rule (spec ∷ imp ∷ []) alphabet (s ∷ i ∷ [])
   pub spec_convergent : IsConvergent s
   pub imp_convergent : IsConvergent i
+
+-- the files that are asked for are told and can be compared: they are read as these systems, and i is input-enabled, if it has
+-- to be
+pub record IsComparable (content : Told) (asked : AskedCheck) (s i : System) : Type 0 where
+  pub loaded : AreLoaded content asked s i
   pub enabled : IsEnabledFor asked i
 
 -- no front of the reached pairs passes the limits

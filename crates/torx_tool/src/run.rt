@@ -1,14 +1,15 @@
 //! The top call: from words and files to what is printed.
-ghost use Rattle.std.specs.Prelude.{◌≡◌, ◌≤◌, ◌<◌, ◌⊎◌, ◌+◌, ℕ, List, [], map, MatchResult, Err, string_bytes};
+ghost use Rattle.std.specs.Prelude.{◌≡◌, ◌≤◌, ◌<◌, ◌⊎◌, ◌+◌, ℕ, true, List, [], map, MatchResult, Err, string_bytes};
 ghost use Rattle.std.specs.Prelude.{◌∷◌, All, IfErr};
 ghost use Rattle.lts_base.specs.Alphabet.{IsOver};
 ghost use Rattle.lts_base.specs.System.{System};
 ghost use Rattle.lts_base.specs.Shape.{IsConvergent};
-ghost use Rattle.torx_words.specs.Asked.{AskedCheck, AskToCheck, RefusesWords};
+ghost use Rattle.lts_shape.specs.Inputs.{IsFirstMissing};
+ghost use Rattle.torx_words.specs.Asked.{AskedCheck, AskedOuts, AskedAngelic, AskToCheck, AskForOuts, AskToComplete, RefusesWords};
 ghost use Rattle.torx_words.specs.declared.kind.UsageKind.{UsageKind};
 ghost use Rattle.torx_words.specs.Named.{check_from, outs_from, angelic_from};
 ghost use Rattle.torx_tool.specs.Causes.{world, IsRefused, IsDiverging, IsOffer, IsCompletion, IsCheckedFor, IsOfferedFor, IsCompletedFor, IsAnswer, IsRun};
-ghost use Rattle.torx_tool.specs.Headline.{IsFailure, IsComparable, IsSettled, IsToldRefusal};
+ghost use Rattle.torx_tool.specs.Headline.{IsFailure, AreLoaded, IsComparable, IsSettled, ToldInput};
 
 use crate::compare::compare;
 use crate::complete::completed;
@@ -30,7 +31,10 @@ pub fn run<F: Files, S: Sink>(alloc: Global, words: &[String], files: &mut F, ou
     ensures later { (other : List ℕ) → F.faults files.old other ≤ F.faults files.new other }
     ensures headline { (asked : AskedCheck) (s i : System) → AskToCheck (map string_bytes words.now) asked → IsComparable (F.content files.old) asked s i → IsSettled asked s i result }
     ensures usage { (kind : UsageKind) → RefusesWords (map string_bytes words.now) kind → (result ≡ Status.Usage kind) ⊎ IsFailure result }
-    ensures refused { (asked : AskedCheck) (cause : Status) → AskToCheck (map string_bytes words.now) asked → IsToldRefusal (F.content files.old) asked cause → (result ≡ cause) ⊎ IsFailure result }
+    ensures not_enabled { (asked : AskedCheck) (s i : System) (state input : ℕ) → AskToCheck (map string_bytes words.now) asked → AreLoaded (F.content files.old) asked s i → asked.enabled ≡ true → IsFirstMissing i i.inputs state input → (result ≡ Status.NotEnabled asked.imp state input) ⊎ IsFailure result }
+    ensures refused { (asked : AskedCheck) (cause : Status) → AskToCheck (map string_bytes words.now) asked → ToldInput (F.content files.old) (asked.spec ∷ asked.imp ∷ []) asked.sorting cause → (result ≡ cause) ⊎ IsFailure result }
+    ensures refused_outs { (asked : AskedOuts) (cause : Status) → AskForOuts (map string_bytes words.now) asked → ToldInput (F.content files.old) (asked.spec ∷ []) asked.sorting cause → (result ≡ cause) ⊎ IsFailure result }
+    ensures refused_angelic { (asked : AskedAngelic) (cause : Status) → AskToComplete (map string_bytes words.now) asked → ToldInput (F.content files.old) (asked.file ∷ []) asked.sorting cause → (result ≡ cause) ⊎ IsFailure result }
 {
     let report = answer(alloc, words, files);
     if let Status::Memory = report.status {

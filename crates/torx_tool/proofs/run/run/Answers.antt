@@ -1,7 +1,7 @@
 use Rattle.std.proofs.Common.{inr}
 use Rattle.torx_tool.specs.Causes.{world}
-use Rattle.torx_tool.proofs.HeadlineLaws.{failed, headline}
-use Rattle.torx_tool.proofs.ToldLaws.{refused_told}
+use Rattle.torx_tool.proofs.HeadlineLaws.{failed, headline, not_enabled_told}
+use Rattle.torx_tool.proofs.ToldLaws.{refused_check, refused_outs, refused_angelic}
 use Rattle.torx_tool.proofs.UsageOnce.{usage_told}
 use Rattle.torx_tool.proofs.RunLaws.{ran}
 use Rattle.torx_tool.proofs.run.run.Goals as goal
@@ -13,7 +13,10 @@ returns-in-Ok g c = record {
   later = c.answer-report.ensures.later;
   headline = headline (world (g.F.Files.content c.args.files.now) (g.F.Files.faults c.args.files.now) (g.F.Files.faults c.answer-report.new.files)) _ _ _ c.answer-report.ensures.answer;
   usage = usage_told (world (g.F.Files.content c.args.files.now) (g.F.Files.faults c.args.files.now) (g.F.Files.faults c.answer-report.new.files)) _ _ _ c.answer-report.ensures.answer;
-  refused = refused_told (world (g.F.Files.content c.args.files.now) (g.F.Files.faults c.args.files.now) (g.F.Files.faults c.answer-report.new.files)) _ _ _ c.answer-report.ensures.answer;
+  not_enabled = not_enabled_told (world (g.F.Files.content c.args.files.now) (g.F.Files.faults c.args.files.now) (g.F.Files.faults c.answer-report.new.files)) _ _ _ c.answer-report.ensures.answer;
+  refused = refused_check (world (g.F.Files.content c.args.files.now) (g.F.Files.faults c.args.files.now) (g.F.Files.faults c.answer-report.new.files)) _ _ _ c.answer-report.ensures.answer;
+  refused_outs = refused_outs (world (g.F.Files.content c.args.files.now) (g.F.Files.faults c.args.files.now) (g.F.Files.faults c.answer-report.new.files)) _ _ _ c.answer-report.ensures.answer;
+  refused_angelic = refused_angelic (world (g.F.Files.content c.args.files.now) (g.F.Files.faults c.args.files.now) (g.F.Files.faults c.answer-report.new.files)) _ _ _ c.answer-report.ensures.answer;
 }
 
 pub returns-in-Err : goal.returns-in-Err
@@ -23,5 +26,8 @@ returns-in-Err g c = record {
   later = c.answer-report.ensures.later;
   headline = λ asked s i ask files. failed asked s i _ tt;
   usage = λ kind why. inr tt;
+  not_enabled = λ asked s i state input ask files asks missing. inr tt;
   refused = λ asked cause ask told. inr tt;
+  refused_outs = λ asked cause ask told. inr tt;
+  refused_angelic = λ asked cause ask told. inr tt;
 }
