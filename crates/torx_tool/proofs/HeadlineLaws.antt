@@ -83,7 +83,7 @@ rule_once content (by_list name) rule other (inputs, listed, told) (more, read, 
     is ∙ ap Listed (listing.texts ∙ sym (listed.is_so.texts)) ∙ sym told
 
 -- labels that have an alphabet can be sorted
-labels_stand : (rule : Rule) (raws : List RawSystem) (a : Alphabet) (status : Status) → IsAlphabetOf rule raws a → RefusesLabels rule raws status → ⊥
+pub labels_stand : (rule : Rule) (raws : List RawSystem) (a : Alphabet) (status : Status) → IsAlphabetOf rule raws a → RefusesLabels rule raws status → ⊥
 labels_stand rule raws a (BadLabels error) is h = h.1 (memory_alone rule raws a is error h.0)
 labels_stand rule raws a other is h = h
 
@@ -131,7 +131,7 @@ systems_once content asked s i (one ∷ two ∷ []) rule a systems files input s
     pairs_split files.rule files.spec files.imp one two files.alphabet a s i systems pairs files.split (subst (λ (r : Rule). IsSplit r (one ∷ two ∷ []) a systems) same split)
 
 -- a convergent system has no cycle of Tau moves
-no_cycle : (name : List ℕ) (s : System) (status : Status) → IsConvergent s → IsCycleOf name s status → ⊥
+pub no_cycle : (name : List ℕ) (s : System) (status : Status) → IsConvergent s → IsCycleOf name s status → ⊥
 no_cycle name s (Divergent named cycle) convergent h = IsTauCycle-diverges s cycle h.1 convergent
 no_cycle name s other convergent h = h
 

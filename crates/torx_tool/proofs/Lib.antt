@@ -11,3 +11,5 @@ mod LabelsOnce
 mod RoomLaws
 mod HeadlineLaws
 mod ToldLaws
+mod TraceOnce
+mod LoadedLaws

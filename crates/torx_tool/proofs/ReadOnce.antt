@@ -109,7 +109,7 @@ moves_as a r q ms says are = record {
 }
 
 -- the system of one over the alphabet is that of the other
-system_as : (a : Alphabet) (r q : RawSystem) (s : System) → SaysSame r q → IsSystemFor a r s → IsSystemFor a q s
+pub system_as : (a : Alphabet) (r q : RawSystem) (s : System) → SaysSame r q → IsSystemFor a r s → IsSystemFor a q s
 system_as a r q s says is =
     let (ms, are, shuffled) = is.moves in
     record {
@@ -128,7 +128,7 @@ same_parts s t states start inputs outputs moves =
     ap (λ n. F s.states s.start n t.outputs t.moves) inputs ∙ ap (λ n. F s.states s.start s.inputs n t.moves) outputs ∙ ap (F s.states s.start s.inputs s.outputs) moves
 
 -- a raw system is one sound system over the alphabet
-system_once : (a : Alphabet) (r : RawSystem) (s t : System) → IsAlphabet a → IsSystem s → IsSystem t → IsSystemFor a r s → IsSystemFor a r t → t ≡ s
+pub system_once : (a : Alphabet) (r : RawSystem) (s t : System) → IsAlphabet a → IsSystem s → IsSystem t → IsSystemFor a r s → IsSystemFor a r t → t ≡ s
 system_once a r s t alphabet sound other one two =
     let moves : t.moves ≡ s.moves = sorted_moves_unique t.moves s.moves other.sorted sound.sorted (system_moves_unique a alphabet r t s two one) in
     same_parts s t (two.states ∙ sym one.states) (two.start ∙ sym one.start) (two.inputs ∙ sym one.inputs) (two.outputs ∙ sym one.outputs) moves

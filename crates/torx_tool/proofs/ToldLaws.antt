@@ -74,14 +74,14 @@ bad_once content faulty name named error (BadFile one fault) once (at, told) is 
 bad_once content faulty name named error other once told is h = absurd told
 
 -- a file that is told to be refused is refused so
-told_once : (w : World) (faulty : List ℕ → FileError → Type 0) (name : List ℕ) (cause status : Status) → IsOnce faulty → ToldRefusal w.content faulty name cause → RefusesFile w faulty name status → (status ≡ cause) ⊎ IsFailure status
+pub told_once : (w : World) (faulty : List ℕ → FileError → Type 0) (name : List ℕ) (cause status : Status) → IsOnce faulty → ToldRefusal w.content faulty name cause → RefusesFile w faulty name status → (status ≡ cause) ⊎ IsFailure status
 told_once w faulty name cause (FileFault named) once told h = inr tt
 told_once w faulty name cause (TooLong named) once told h = inl (long_once w.content faulty name named cause told h.0 h.1)
 told_once w faulty name cause (BadFile named error) once told h = inl (bad_once w.content faulty name named error cause once told h.0 h.1)
 told_once w faulty name cause other once told h = absurd h
 
 -- a file that is told to be refused isn't so, where what is so has no fault
-told_not : (content : Told) (faulty : List ℕ → FileError → Type 0) (is : List ℕ → Type 0) (name : List ℕ) (cause : Status) → ((c : List ℕ) → is c → (e : FileError) → faulty c e → ⊥) → ToldRefusal content faulty name cause → Holds content name is → ⊥
+pub told_not : (content : Told) (faulty : List ℕ → FileError → Type 0) (is : List ℕ → Type 0) (name : List ℕ) (cause : Status) → ((c : List ℕ) → is c → (e : FileError) → faulty c e → ⊥) → ToldRefusal content faulty name cause → Holds content name is → ⊥
 told_not content faulty is name (TooLong one) fine (at, (c, told, long)) h = long_told content name c is told long h
 told_not content faulty is name (BadFile one error) fine (at, told) h = fine told.c (told_is content name (λ c. faulty c error) is told h) error told.is_so
 told_not content faulty is name other fine told h = told
@@ -110,7 +110,7 @@ systems_unread content (name ∷ names) cause (raw ∷ raws) (inl told) read = t
 systems_unread content (name ∷ names) cause (raw ∷ raws) (inr (first, told)) read = systems_unread content names cause raws told read.1
 
 -- files of systems that are told and read are refused for a failure alone
-systems_read : (w : World) (names : List (List ℕ)) (raws : List RawSystem) (status : Status) → AreTold w.content names raws → RefusesSystems w names status → IsFailure status
+pub systems_read : (w : World) (names : List (List ℕ)) (raws : List RawSystem) (status : Status) → AreTold w.content names raws → RefusesSystems w names status → IsFailure status
 systems_read w [] raws status told h = absurd h
 systems_read w (name ∷ names) [] status told h = absurd told
 systems_read w (name ∷ names) (raw ∷ raws) status told (inl h) = read_stands w name raw status told.0 h
@@ -123,7 +123,7 @@ labels_once content name raw other told read =
     labels_same raw other told.is_so.sound here.sound (aut_once told.c raw other told.is_so.aut here.aut)
 
 -- what is read of the files has the labels of what is told of them
-all_labels_once : (content : Told) (names : List (List ℕ)) (raws others : List RawSystem) → AreTold content names raws → AreRead content names others → all_labels raws ≡ all_labels others
+pub all_labels_once : (content : Told) (names : List (List ℕ)) (raws others : List RawSystem) → AreTold content names raws → AreRead content names others → all_labels raws ≡ all_labels others
 all_labels_once content [] [] [] told read = refl
 all_labels_once content [] [] (other ∷ others) told read = absurd read
 all_labels_once content [] (raw ∷ raws) others told read = absurd told
@@ -205,22 +205,36 @@ refused_check w words status text answer asked cause ask told = elim (check_answ
   | inr h ↦ answer_told w (asked.spec ∷ asked.imp ∷ []) asked.sorting (IsComparison asked) cause status text told h
 ]
 
+-- what is answered to words that ask for `outs`
+pub outs_answer : (w : World) (words : List (List ℕ)) (status : Status) (text : List ℕ) → IsAnswer w words status text → (asked : AskedOuts) → AskForOuts words asked → IsFailure status ⊎ IsOfferedFor w asked status text
+outs_answer w words status text (inl memory) asked ask = inl (subst IsFailure (sym memory) tt)
+outs_answer w words status text (inr (inl (usage, says))) asked ask = absurd (outs_no_usage words asked status ask usage)
+outs_answer w words status text (inr (inr (inl (other, ask_other, h)))) asked ask = absurd (no_outs words other asked ask_other ask)
+outs_answer w words status text (inr (inr (inr (inl (other, ask_other, h))))) asked ask =
+    let same : other ≡ asked = outs_once words other asked ask_other ask in
+    inr (subst (λ (c : AskedOuts). IsOfferedFor w c status text) same h)
+outs_answer w words status text (inr (inr (inr (inr (other, ask_other, h))))) asked ask = absurd (outs_or_angelic words asked other ask ask_other)
+
+-- what is answered to words that ask for `angelic`
+pub angelic_answer : (w : World) (words : List (List ℕ)) (status : Status) (text : List ℕ) → IsAnswer w words status text → (asked : AskedAngelic) → AskToComplete words asked → IsFailure status ⊎ IsCompletedFor w asked status text
+angelic_answer w words status text (inl memory) asked ask = inl (subst IsFailure (sym memory) tt)
+angelic_answer w words status text (inr (inl (usage, says))) asked ask = absurd (angelic_no_usage words asked status ask usage)
+angelic_answer w words status text (inr (inr (inl (other, ask_other, h)))) asked ask = absurd (no_angelic words other asked ask_other ask)
+angelic_answer w words status text (inr (inr (inr (inl (other, ask_other, h))))) asked ask = absurd (outs_or_angelic words other asked ask_other ask)
+angelic_answer w words status text (inr (inr (inr (inr (other, ask_other, h))))) asked ask =
+    let same : other ≡ asked = angelic_once words other asked ask_other ask in
+    inr (subst (λ (c : AskedAngelic). IsCompletedFor w c status text) same h)
+
 -- what `outs` answers where its files are told to be refused
 pub refused_outs : (w : World) (words : List (List ℕ)) (status : Status) (text : List ℕ) → IsAnswer w words status text → (asked : AskedOuts) (cause : Status) → AskForOuts words asked → ToldInput w.content (asked.spec ∷ []) asked.sorting cause → (status ≡ cause) ⊎ IsFailure status
-refused_outs w words status text (inl memory) asked cause ask told = inr (subst IsFailure (sym memory) tt)
-refused_outs w words status text (inr (inl (usage, says))) asked cause ask told = absurd (outs_no_usage words asked status ask usage)
-refused_outs w words status text (inr (inr (inl (other, ask_other, h)))) asked cause ask told = absurd (no_outs words other asked ask_other ask)
-refused_outs w words status text (inr (inr (inr (inl (other, ask_other, h))))) asked cause ask told =
-    let same : other ≡ asked = outs_once words other asked ask_other ask in
-    answer_told w (asked.spec ∷ []) asked.sorting (IsOffer w asked) cause status text told (subst (λ (c : AskedOuts). IsOfferedFor w c status text) same h)
-refused_outs w words status text (inr (inr (inr (inr (other, ask_other, h))))) asked cause ask told = absurd (outs_or_angelic words asked other ask ask_other)
+refused_outs w words status text answer asked cause ask told = elim (outs_answer w words status text answer asked ask) [
+  | inl failure ↦ inr failure
+  | inr h ↦ answer_told w (asked.spec ∷ []) asked.sorting (IsOffer w asked) cause status text told h
+]
 
 -- what `angelic` answers where its files are told to be refused
 pub refused_angelic : (w : World) (words : List (List ℕ)) (status : Status) (text : List ℕ) → IsAnswer w words status text → (asked : AskedAngelic) (cause : Status) → AskToComplete words asked → ToldInput w.content (asked.file ∷ []) asked.sorting cause → (status ≡ cause) ⊎ IsFailure status
-refused_angelic w words status text (inl memory) asked cause ask told = inr (subst IsFailure (sym memory) tt)
-refused_angelic w words status text (inr (inl (usage, says))) asked cause ask told = absurd (angelic_no_usage words asked status ask usage)
-refused_angelic w words status text (inr (inr (inl (other, ask_other, h)))) asked cause ask told = absurd (no_angelic words other asked ask_other ask)
-refused_angelic w words status text (inr (inr (inr (inl (other, ask_other, h))))) asked cause ask told = absurd (outs_or_angelic words other asked ask_other ask)
-refused_angelic w words status text (inr (inr (inr (inr (other, ask_other, h))))) asked cause ask told =
-    let same : other ≡ asked = angelic_once words other asked ask_other ask in
-    answer_told w (asked.file ∷ []) asked.sorting IsCompletion cause status text told (subst (λ (c : AskedAngelic). IsCompletedFor w c status text) same h)
+refused_angelic w words status text answer asked cause ask told = elim (angelic_answer w words status text answer asked ask) [
+  | inl failure ↦ inr failure
+  | inr h ↦ answer_told w (asked.file ∷ []) asked.sorting IsCompletion cause status text told h
+]

@@ -1,15 +1,16 @@
--- What a command answers for files that are told to be refused; and for two files that can be compared, when `check` answers that
--- the implementation conforms, and when that it doesn't.
-use Rattle.std.specs.Prelude.{◌≡◌, ℕ, ◌<◌, ◌≤◌, List, [], ◌∷◌, length, Some, ◌⊎◌}
+-- What a command answers for files that are told to be refused; for two files that can be compared, when `check` answers that
+-- the implementation conforms, and when that it doesn't; and what `outs` and `angelic` answer for a file that is loaded.
+use Rattle.std.specs.Prelude.{◌≡◌, ℕ, ◌<◌, ◌≤◌, List, [], ◌∷◌, length, Option, Some, None, ◌⊎◌}
 use Rattle.std.specs.List.{AllZip}
 use Rattle.lts_base.specs.declared.item.Item.{Item}
+use Rattle.lts_base.specs.declared.item.Mode.{Mode}
 use Rattle.lts_base.specs.declared.sorting.Rule.{Rule}
 use Rattle.lts_base.specs.declared.sorting.Rule.TheVariants.{Prefix, Suffix, Listed}
 use Rattle.lts_base.specs.System.{System, label_count}
 use Rattle.lts_base.specs.Alphabet.{Alphabet}
 use Rattle.lts_base.specs.Raw.{RawSystem}
 use Rattle.lts_base.specs.Shape.{IsConvergent}
-use Rattle.lts_base.specs.Conformance.{IsConforming}
+use Rattle.lts_base.specs.Conformance.{IsConforming, IsAllowed}
 use Rattle.lts_base.specs.Order.{IsAtMost, IsFirstViolation}
 use Rattle.lts_base.specs.Reached.{Row, trace_at, AreFirstPairs, IsWithin}
 use Rattle.conf_decide.specs.declared.answer.What.{What}
@@ -17,8 +18,10 @@ use Rattle.text_scan.specs.Listing.{IsListing}
 use Rattle.torx_words.specs.Asked.{AskedSorting, by_prefix, by_suffix, by_list, AskedCheck}
 use Rattle.torx_tool.specs.declared.status.FileError.{FileError}
 use Rattle.torx_tool.specs.declared.status.Status.{Status}
-use Rattle.torx_tool.specs.declared.status.Status.TheVariants.{Conforms, Violates, Undecided, TooLong, BadFile, FileFault, OutFault, Memory}
-use Rattle.torx_tool.specs.Causes.{Told, IsReadAs, IsFaultySystem, IsFaultyList, RefusesLabels, IsSplit, IsEnabledFor, limits_of}
+use Rattle.torx_tool.specs.declared.status.LimitWhat.TheVariants.{Moves}
+use Rattle.torx_tool.specs.declared.status.Status.TheVariants.{Conforms, Violates, Undecided, Printed, Absent, Limit, TooLong, BadFile, FileFault, OutFault, Memory}
+use Rattle.torx_tool.specs.Offered.{IsTrace, IsFirstAbsent}
+use Rattle.torx_tool.specs.Causes.{Told, IsReadAs, IsFaultySystem, IsFaultyList, IsFaultyTrace, RefusesLabels, IsSplit, IsEnabledFor, limits_of}
 
 -- memory ran out, the output failed, or a file couldn't be read: the only answers that the contents of the files don't decide
 abbrev pub IsFailure : Status → Type 0
@@ -112,3 +115,32 @@ pub record IsSettled (asked : AskedCheck) (s i : System) (status : Status) : Typ
   pub is_conforming : (n : ℕ) → status ≡ Conforms n → IsConforming asked.mode i s
   pub is_first : (σ : List Item) (x : Item) → status ≡ Violates σ x → IsFirstViolation asked.mode i s σ x
   pub is_cut : (what : What) (reached depth : ℕ) → status ≡ Undecided what reached depth → HasRoom asked s i → ⊥
+
+-- the file of this name is told and read, and so is the rule; its system over this alphabet is s, which is convergent
+pub record IsLoaded (content : Told) (name : List ℕ) (sorting : AskedSorting) (a : Alphabet) (s : System) : Type 0 where
+  pub raw : RawSystem
+  pub rule : Rule
+  pub read : Tells content name (λ c. IsReadAs c raw)
+  pub ruled : TellsRule content sorting rule
+  pub split : IsSplit rule (raw ∷ []) a (s ∷ [])
+  pub convergent : IsConvergent s
+
+-- the file of the trace is told, and is read as this trace over the alphabet; without a file it is the empty trace
+abbrev pub TellsTrace : Told → Alphabet → Option (List ℕ) → List Item → Type 0
+TellsTrace content a None σ = σ ≡ []
+TellsTrace content a (Some name) σ = Tells content name (λ c. IsTrace a c σ)
+
+-- the file of the trace is told to be refused for this
+abbrev pub ToldTrace : Told → Alphabet → Option (List ℕ) → Status → Type 0
+ToldTrace content a None cause = ⊥
+ToldTrace content a (Some name) cause = ToldRefusal content (IsFaultyTrace a) name cause
+
+-- but for failures the answer is printed where the trace is allowed, and else says which is the first place whose prefix isn't
+pub record IsFollowedTo (mode : Mode) (s : System) (σ : List Item) (status : Status) : Type 0 where
+  pub allowed : IsAllowed mode s σ → (status ≡ Printed) ⊎ IsFailure status
+  pub absent : (k : ℕ) → IsFirstAbsent mode s σ k → (status ≡ Absent k) ⊎ IsFailure status
+
+-- but for failures the completed system is printed where it has at most 1,048,576 moves, and else the answer is that limit
+pub record IsCompletedTo (t : System) (status : Status) : Type 0 where
+  pub printed : length t.moves ≤ 1048576 → (status ≡ Printed) ⊎ IsFailure status
+  pub too_many : 1048576 < length t.moves → (status ≡ Limit Moves 1048577) ⊎ IsFailure status

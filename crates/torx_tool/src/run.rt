@@ -1,15 +1,17 @@
 //! The top call: from words and files to what is printed.
 ghost use Rattle.std.specs.Prelude.{◌≡◌, ◌≤◌, ◌<◌, ◌⊎◌, ◌+◌, ℕ, true, List, [], map, MatchResult, Err, string_bytes};
 ghost use Rattle.std.specs.Prelude.{◌∷◌, All, IfErr};
-ghost use Rattle.lts_base.specs.Alphabet.{IsOver};
+ghost use Rattle.lts_base.specs.declared.item.Item.{Item};
+ghost use Rattle.lts_base.specs.Alphabet.{Alphabet, IsOver};
 ghost use Rattle.lts_base.specs.System.{System};
 ghost use Rattle.lts_base.specs.Shape.{IsConvergent};
 ghost use Rattle.lts_shape.specs.Inputs.{IsFirstMissing};
+ghost use Rattle.lts_shape.specs.Angelic.{IsAngelic};
 ghost use Rattle.torx_words.specs.Asked.{AskedCheck, AskedOuts, AskedAngelic, AskToCheck, AskForOuts, AskToComplete, RefusesWords};
 ghost use Rattle.torx_words.specs.declared.kind.UsageKind.{UsageKind};
 ghost use Rattle.torx_words.specs.Named.{check_from, outs_from, angelic_from};
 ghost use Rattle.torx_tool.specs.Causes.{world, IsRefused, IsDiverging, IsOffer, IsCompletion, IsCheckedFor, IsOfferedFor, IsCompletedFor, IsAnswer, IsRun};
-ghost use Rattle.torx_tool.specs.Headline.{IsFailure, AreLoaded, IsComparable, IsSettled, ToldInput};
+ghost use Rattle.torx_tool.specs.Headline.{IsFailure, AreLoaded, IsComparable, IsSettled, ToldInput, IsLoaded, TellsTrace, ToldTrace, IsFollowedTo, IsCompletedTo};
 
 use crate::compare::compare;
 use crate::complete::completed;
@@ -35,6 +37,9 @@ pub fn run<F: Files, S: Sink>(alloc: Global, words: &[String], files: &mut F, ou
     ensures refused { (asked : AskedCheck) (cause : Status) → AskToCheck (map string_bytes words.now) asked → ToldInput (F.content files.old) (asked.spec ∷ asked.imp ∷ []) asked.sorting cause → (result ≡ cause) ⊎ IsFailure result }
     ensures refused_outs { (asked : AskedOuts) (cause : Status) → AskForOuts (map string_bytes words.now) asked → ToldInput (F.content files.old) (asked.spec ∷ []) asked.sorting cause → (result ≡ cause) ⊎ IsFailure result }
     ensures refused_angelic { (asked : AskedAngelic) (cause : Status) → AskToComplete (map string_bytes words.now) asked → ToldInput (F.content files.old) (asked.file ∷ []) asked.sorting cause → (result ≡ cause) ⊎ IsFailure result }
+    ensures outs { (asked : AskedOuts) (a : Alphabet) (s : System) (σ : List Item) → AskForOuts (map string_bytes words.now) asked → IsLoaded (F.content files.old) asked.spec asked.sorting a s → TellsTrace (F.content files.old) a asked.trace σ → IsFollowedTo asked.mode s σ result }
+    ensures refused_trace { (asked : AskedOuts) (a : Alphabet) (s : System) (cause : Status) → AskForOuts (map string_bytes words.now) asked → IsLoaded (F.content files.old) asked.spec asked.sorting a s → ToldTrace (F.content files.old) a asked.trace cause → (result ≡ cause) ⊎ IsFailure result }
+    ensures angelic { (asked : AskedAngelic) (a : Alphabet) (s t : System) → AskToComplete (map string_bytes words.now) asked → IsLoaded (F.content files.old) asked.file asked.sorting a s → IsAngelic s t → IsCompletedTo t result }
 {
     let report = answer(alloc, words, files);
     if let Status::Memory = report.status {
