@@ -63,7 +63,7 @@ RefusesFile w faulty name (TooLong named) = (named ≡ name) × IfSome (w.conten
 RefusesFile w faulty name (BadFile named error) = (named ≡ name) × Holds w.content name (λ c. faulty c error)
 RefusesFile w faulty name other = ⊥
 
--- the file of this name can't be read, whatever its content
+-- no content is at fault, so a file is refused by this only where reading it failed or it is too long
 abbrev pub IsNoFault : List ℕ → FileError → Type 0
 IsNoFault c error = ⊥
 

@@ -1,6 +1,5 @@
 //! The top call: from words and files to what is printed.
-ghost use Rattle.std.specs.Prelude.{◌≡◌, ◌≤◌, ◌<◌, ◌⊎◌, ◌+◌, ℕ, true, List, [], map, MatchResult, Err, string_bytes};
-ghost use Rattle.std.specs.Prelude.{◌∷◌, All, IfErr};
+ghost use Rattle.std.specs.Prelude.{◌≡◌, ◌≤◌, ◌<◌, ◌⊎◌, ◌∷◌, ℕ, true, List, [], map, All, string_bytes};
 ghost use Rattle.lts_base.specs.declared.item.Item.{Item};
 ghost use Rattle.lts_base.specs.Alphabet.{Alphabet, IsOver};
 ghost use Rattle.lts_base.specs.System.{System};
