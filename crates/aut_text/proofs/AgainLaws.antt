@@ -23,6 +23,7 @@ use Rattle.aut_text.specs.Form.{visible}
 use Rattle.aut_text.specs.Grammar.{is_text, IsHeaderLine, IsMoveLine, AreMoves, IsBegun, IsAut}
 use Rattle.aut_text.specs.Printed.{act_text, act_label, line_text, header_text, printed, named_move, Says, IsWritable, AreWritable, FitsFile}
 use Rattle.aut_text.proofs.SpellingLaws.{IsUtf8-add, decimal_is, header_line, header_of, move_line, move_of, header_cr, move_cr, header_text_is, move_text_is, header_lacks, move_lacks, header_utf8, move_utf8, header_short, move_short}
+use Rattle.lts_base.specs.declared.limits.TheConstants.{MOST_MOVES, MOST_STATES}
 
 -- what a move of a file with so many states asks
 pub record IsPrintable (texts : List (List ℕ)) (states : ℕ) (m : Move) : Type 0 where
@@ -71,7 +72,7 @@ printable texts states m labels writable is = record { from = is.from; to = is.t
     seen (Label k) below = let own = writable k [] below in rw (own.no_i, own.no_tau) refl
 
 -- the lines of a move and of a header are as the grammar wants them
-pub move_line_is : (texts : List (List ℕ)) (states : ℕ) (m : Move) → states ≤ 65536 → IsPrintable texts states m → IsMoveLine states (line_of texts m) (named_move texts m)
+pub move_line_is : (texts : List (List ℕ)) (states : ℕ) (m : Move) → states ≤ MOST_STATES → IsPrintable texts states m → IsMoveLine states (line_of texts m) (named_move texts m)
 move_line_is texts states m few is =
     let from : IsDecimal (decimal m.from) m.from = decimal_is m.from (omega (arith, is.from, few)) in
     let to : IsDecimal (decimal m.to) m.to = decimal_is m.to (omega (arith, is.to, few)) in
@@ -90,7 +91,7 @@ move_line_is texts states m few is =
       is = rw (is.seen) refl;
     }
 
-pub header_line_is : (h : Header) → h.states ≤ 65536 → h.transitions ≤ 1048576 → h.start < h.states → IsHeaderLine (header_line (decimal h.start) (decimal h.transitions) (decimal h.states)) h
+pub header_line_is : (h : Header) → h.states ≤ MOST_STATES → h.transitions ≤ MOST_MOVES → h.start < h.states → IsHeaderLine (header_line (decimal h.start) (decimal h.transitions) (decimal h.states)) h
 header_line_is h states transitions start =
     let a : IsDecimal (decimal h.start) h.start = decimal_is h.start (omega (arith, start, states)) in
     let b : IsDecimal (decimal h.transitions) h.transitions = decimal_is h.transitions (omega (arith, transitions)) in
@@ -107,7 +108,7 @@ header_line_is h states transitions start =
     }
 
 -- the lines after the header are those of the moves, one by one
-pub moves_again : (texts : List (List ℕ)) (states : ℕ) (ms : List Move) → states ≤ 65536 → All (IsPrintable texts states) ms → AreMoves states (lines_of (flat_map (line_text texts) ms)) (map (named_move texts) ms)
+pub moves_again : (texts : List (List ℕ)) (states : ℕ) (ms : List Move) → states ≤ MOST_STATES → All (IsPrintable texts states) ms → AreMoves states (lines_of (flat_map (line_text texts) ms)) (map (named_move texts) ms)
 moves_again texts states [] few all = tt
 moves_again texts states (m ∷ ms) few all =
     let is : IsPrintable texts states m = all zero m (omega arith) in

@@ -12,6 +12,7 @@ use Rattle.aut_text.specs.Form.{Written, IsMove}
 use Rattle.aut_text.specs.Grammar.{is_text, IsClean, AreMoves, IsBlankContent, IsAut}
 use Rattle.aut_text.specs.Faults.{IsNoHeader, IsHeaderFault, IsNoMove, IsMoveAfter, IsLineFault, IsFaultAmong, IsHeadFault, IsLaterFault, IsMiscounted, RefusesAut}
 use Rattle.aut_text.proofs.OnceLaws.{header_once, move_once, moves_once, headed_once, begun_once, number_once, good_line, line_excludes, head_excludes, blank_excludes, has_text, aut_excludes}
+use Rattle.lts_base.specs.declared.limits.TheConstants.{MOST_LABEL_BYTES, MOST_LINE_BYTES, MOST_MOVES, MOST_STATES}
 
 -- two errors are the same, or memory ran out
 abbrev pub AreSame : AutError → AutError → Type 0
@@ -40,7 +41,7 @@ no_header_states line (inl long) (clean, (k, form, over)) = omega (arith, clean.
 no_header_states line (inr (inl (short, bad))) (clean, (k, form, over)) = bad clean.utf8
 no_header_states line (inr (inr (inl (other, none)))) (clean, (k, form, over)) = none k form
 no_header_states line (inr (inr (inr (other, (h, is, states, transitions, start))))) (clean, (k, form, over)) =
-    let past : 65536 < h.states = subst (λ (g : Header). 65536 < g.states) (header_once (without_cr line) k h form is) over in
+    let past : MOST_STATES < h.states = subst (λ (g : Header). MOST_STATES < g.states) (header_once (without_cr line) k h form is) over in
     omega (arith, past, states)
 
 no_header_moves : (line : List ℕ) → IsNoHeader line → IsHeaderFault line TooManyMoves → ⊥
@@ -48,12 +49,12 @@ no_header_moves line (inl long) (clean, (k, form, small, over)) = omega (arith, 
 no_header_moves line (inr (inl (short, bad))) (clean, (k, form, small, over)) = bad clean.utf8
 no_header_moves line (inr (inr (inl (other, none)))) (clean, (k, form, small, over)) = none k form
 no_header_moves line (inr (inr (inr (other, (h, is, states, transitions, start))))) (clean, (k, form, small, over)) =
-    let past : 1048576 < h.transitions = subst (λ (g : Header). 1048576 < g.transitions) (header_once (without_cr line) k h form is) over in
+    let past : MOST_MOVES < h.transitions = subst (λ (g : Header). MOST_MOVES < g.transitions) (header_once (without_cr line) k h form is) over in
     omega (arith, past, transitions)
 
 states_moves : (line : List ℕ) → IsHeaderFault line TooManyStates → IsHeaderFault line TooManyMoves → ⊥
 states_moves line (clean, (k, form, over)) (other, (h, is, small, past)) =
-    let low : k.states ≤ 65536 = subst (λ (g : Header). g.states ≤ 65536) (header_once (without_cr line) h k is form) small in
+    let low : k.states ≤ MOST_STATES = subst (λ (g : Header). g.states ≤ MOST_STATES) (header_once (without_cr line) h k is form) small in
     omega (arith, low, over)
 
 -- a header's line has one fault
@@ -82,12 +83,12 @@ pub data Stage : Type 0 where
   Label : Stage
 
 abbrev IsAt : ℕ → ℕ → List ℕ → Stage → Type 0
-IsAt states count line TooLong = 4096 < length line
-IsAt states count line Bytes = (length line ≤ 4096) × (IsUtf8 (without_cr line) → ⊥)
+IsAt states count line TooLong = MOST_LINE_BYTES < length line
+IsAt states count line Bytes = (length line ≤ MOST_LINE_BYTES) × (IsUtf8 (without_cr line) → ⊥)
 IsAt states count line Form = IsClean line × IsNoMove (without_cr line)
-IsAt states count line Room = IsClean line × ((w : Written) × IsMove (without_cr line) w × (1048576 ≤ count))
+IsAt states count line Room = IsClean line × ((w : Written) × IsMove (without_cr line) w × (MOST_MOVES ≤ count))
 IsAt states count line Ends = (w : Written) × IsMoveAfter count line w × ((w.from < states) × (w.to < states) → ⊥)
-IsAt states count line Label = (w : Written) × IsMoveAfter count line w × (w.from < states) × (w.to < states) × (1024 < length w.label)
+IsAt states count line Label = (w : Written) × IsMoveAfter count line w × (w.from < states) × (w.to < states) × (MOST_LABEL_BYTES < length w.label)
 
 -- the error of a line k at this stage
 abbrev error_at : ℕ → Stage → AutError
@@ -110,10 +111,10 @@ stage_of states count line k BadHeader fault = absurd fault
 stage_of states count line k (Count declared found) fault = absurd fault
 stage_of states count line k TooManyStates fault = absurd fault
 
-long_clean : (line : List ℕ) → 4096 < length line → IsClean line → ⊥
+long_clean : (line : List ℕ) → MOST_LINE_BYTES < length line → IsClean line → ⊥
 long_clean line long clean = omega (arith, clean.short, long)
 
-full_room : (count : ℕ) → 1048576 ≤ count → count < 1048576 → ⊥
+full_room : (count : ℕ) → MOST_MOVES ≤ count → count < MOST_MOVES → ⊥
 full_room count full room = omega (arith, full, room)
 
 ends_label : (states count : ℕ) (line : List ℕ) → IsAt states count line Ends → IsAt states count line Label → ⊥
@@ -171,7 +172,7 @@ line_fault_once states count line k e f one two = elim (stage_of states count li
 ]
 
 -- a fault before a line that is reached is want of memory
-pub earlier_fault : (states : ℕ) (n : ℕ) (lines : List (List ℕ)) (e : AutError) (a : IsFaultAmong states n lines e) (rest : List (List ℕ)) (ms : List NamedMove) → AreMoves states (a.good ++ a.bad ∷ rest) ms → length ms ≤ 1048576 → e ≡ Memory
+pub earlier_fault : (states : ℕ) (n : ℕ) (lines : List (List ℕ)) (e : AutError) (a : IsFaultAmong states n lines e) (rest : List (List ℕ)) (ms : List NamedMove) → AreMoves states (a.good ++ a.bad ∷ rest) ms → length ms ≤ MOST_MOVES → e ≡ Memory
 earlier_fault states n lines e a rest ms all few =
     let (m, is, less) = good_line states a.good a.bad rest a.moves ms all a.moves_are a.text in
     line_excludes states (length a.moves) a.bad (n + length a.good + 1) m e is (omega (arith, less, few)) a.fault

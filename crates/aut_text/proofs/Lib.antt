@@ -9,3 +9,4 @@ pub mod FaultLaws
 pub mod SpellingLaws
 pub mod AgainLaws
 pub mod SplitLaws
+pub mod RawOnce

@@ -17,6 +17,7 @@ use Rattle.aut_text.specs.Form.{IsOpening, IsClosing, IsBeginning, IsHeader, Wri
 use Rattle.aut_text.specs.Grammar.{is_text, IsHeaderLine, IsMoveLine, AreMoves, IsHeaded, IsBlankContent, IsBegun, IsAut, has_moves, SaysSame}
 use Rattle.aut_text.specs.Faults.{IsHeaderFault, IsLineFault, IsHeadFault, IsLaterFault, IsMiscounted, RefusesAut}
 use Rattle.aut_text.proofs.FormLaws.{header_front, header_middle, header_back, move_front, move_back, move_others}
+use Rattle.lts_base.specs.declared.limits.TheConstants.{MOST_LABEL_BYTES, MOST_MOVES, MOST_STATES}
 
 pub decimal_once : (bytes : List ℕ) (n m : ℕ) → IsDecimal bytes n → IsDecimal bytes m → n ≡ m
 decimal_once bytes n m one other = sym (one.is) ∙ other.is
@@ -130,7 +131,7 @@ moves_once states (line ∷ lines) (m ∷ ms) (n ∷ ns) one two =
     cc
 
 -- the line of a move has no fault
-pub line_excludes : (states count : ℕ) (line : List ℕ) (k : ℕ) (m : NamedMove) (e : AutError) → IsMoveLine states line m → count < 1048576 → IsLineFault states count line k e → e ≡ Memory
+pub line_excludes : (states count : ℕ) (line : List ℕ) (k : ℕ) (m : NamedMove) (e : AutError) → IsMoveLine states line m → count < MOST_MOVES → IsLineFault states count line k e → e ≡ Memory
 line_excludes states count line k m (Line n) is room (at, inl long) = absurd (omega (arith, is.line_is.clean.short, long))
 line_excludes states count line k m (Line n) is room (at, inr (clean, none)) = absurd (none is.written is.line_is.form)
 line_excludes states count line k m (NotUtf8 n) is room (at, short, bad) = absurd (bad is.line_is.clean.utf8)
@@ -140,7 +141,7 @@ line_excludes states count line k m (State n) is room (at, (w, after, apart)) =
     absurd (apart (subst (λ (v : Written). (v.from < states) × (v.to < states)) same (is.line_is.from, is.line_is.to)))
 line_excludes states count line k m (LabelLong n) is room (at, (w, after, from, to, long)) =
     let same : is.written ≡ w = move_once (without_cr line) is.written w is.line_is.form after.1 in
-    let short : length w.label ≤ 1024 = subst (λ (v : Written). length v.label ≤ 1024) same (is.line_is.label) in
+    let short : length w.label ≤ MOST_LABEL_BYTES = subst (λ (v : Written). length v.label ≤ MOST_LABEL_BYTES) same (is.line_is.label) in
     absurd (omega (arith, short, long))
 line_excludes states count line k m Memory is room fault = refl
 line_excludes states count line k m BadHeader is room fault = absurd fault
@@ -172,10 +173,10 @@ header_excludes line h BadHeader is (inr (inr (inr (clean, (k, form, states, tra
     let over : h.states ≤ h.start = subst (λ (g : Header). g.states ≤ g.start) same start in
     omega (arith, over, is.start)
 header_excludes line h TooManyStates is (clean, (k, form, over)) =
-    let past : 65536 < h.states = subst (λ (g : Header). 65536 < g.states) (header_once (without_cr line) k h form is.form) over in
+    let past : MOST_STATES < h.states = subst (λ (g : Header). MOST_STATES < g.states) (header_once (without_cr line) k h form is.form) over in
     omega (arith, past, is.states)
 header_excludes line h TooManyMoves is (clean, (k, form, states, over)) =
-    let past : 1048576 < h.transitions = subst (λ (g : Header). 1048576 < g.transitions) (header_once (without_cr line) k h form is.form) over in
+    let past : MOST_MOVES < h.transitions = subst (λ (g : Header). MOST_MOVES < g.transitions) (header_once (without_cr line) k h form is.form) over in
     omega (arith, past, is.transitions)
 header_excludes line h (Line n) is fault = absurd fault
 header_excludes line h (State n) is fault = absurd fault
@@ -198,7 +199,7 @@ pub blank_excludes : (content : List ℕ) (h : Header) (n : ℕ) (others : List 
 blank_excludes content h n others begun blank = has_text begun.headed.blanks begun.head others begun.headed.text (rw (begun.headed.lines) at blank)
 
 -- a file has at most 1,048,576 moves
-pub few_moves : (content : List ℕ) (r : RawSystem) → (a : IsAut content r) → length (has_moves r) ≤ 1048576
+pub few_moves : (content : List ℕ) (r : RawSystem) → (a : IsAut content r) → length (has_moves r) ≤ MOST_MOVES
 few_moves content r a =
     let count : length (has_moves r) ≡ length r.moves = length-map r.moves (named r.labels) in
     omega (arith, count, a.count, a.begun.header.transitions)

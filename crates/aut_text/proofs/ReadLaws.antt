@@ -15,6 +15,7 @@ use Rattle.aut_text.specs.Parts.{Parts, NamedMove, named, named_moves}
 use Rattle.aut_text.specs.Grammar.{is_text, IsClean, IsMoveLine, AreMoves, IsHeaded, IsBlankContent, IsBegun, IsAut}
 use Rattle.aut_text.specs.Faults.{IsLineFault, IsFaultAmong, RefusesAut}
 use Rattle.aut_text.specs.Reading.{AddsLine}
+use Rattle.lts_base.specs.declared.limits.TheConstants.{MOST_LINE_BYTES, MOST_MOVES}
 
 -- the content's lines before the rest are blank, and there are so many of them
 pub record IsSkipped (content rest : List ℕ) (number : ℕ) : Type 0 where
@@ -54,7 +55,7 @@ IsSkipped-all content rest number skipped none =
     rw lines skipped.blank
 
 -- a line that was tested
-pub clean_line : (line text : List ℕ) {A E : Type 0} (P : A → Type 0) (Q : E → Type 0) (r : Result A E) → length line ≤ 4096 → text ≡ without_cr line → false ≡ is_err r → MatchResult r (λ a. P a × IsUtf8 text) Q → IsClean line
+pub clean_line : (line text : List ℕ) {A E : Type 0} (P : A → Type 0) (Q : E → Type 0) (r : Result A E) → length line ≤ MOST_LINE_BYTES → text ≡ without_cr line → false ≡ is_err r → MatchResult r (λ a. P a × IsUtf8 text) Q → IsClean line
 clean_line line text P Q (Ok a) short is ok utf8 = record { short = short; utf8 = rw is at (utf8.1) }
 clean_line line text P Q (Err e) short is ok utf8 = absurd (false≢true ok)
 
@@ -64,7 +65,7 @@ pub record IsWalked (states start : ℕ) (lines rest : List (List ℕ)) (moves :
   pub lines_are : lines ≡ before ++ rest
   pub moves_are : AreMoves states before moves
   pub count : number ≡ start + length before
-  pub few : length moves ≤ 1048576
+  pub few : length moves ≤ MOST_MOVES
 
 pub IsWalked-none : (states start : ℕ) (lines : List (List ℕ)) → IsWalked states start lines lines [] start
 IsWalked-none states start lines = record { before = []; lines_are = refl; moves_are = tt; count = omega arith; few = omega arith }
@@ -87,7 +88,7 @@ IsWalked-step states start lines rest line after moves new number walked split a
     more (inl (blank, same)) = rw (blank, same, append-nil (filter is_text walked.before)) walked.moves_are
     more (inr (text, (m, is, longer, room))) = rw (text, longer) (AllZip-push (IsMoveLine states) (filter is_text walked.before) moves line m walked.moves_are is)
 
-    fits : AddsLine states line moves new → length new ≤ 1048576
+    fits : AddsLine states line moves new → length new ≤ MOST_MOVES
     fits (inl (blank, same)) = rw same walked.few
     fits (inr (text, (m, is, longer, room))) = rw (longer, length_push moves m) (omega (arith, room))
 
@@ -114,7 +115,7 @@ pub named_count : (p : Parts) → length (named_moves p) ≡ length p.moves
 named_count p = length-map p.moves (named p.labels)
 
 -- what the end of a reading says of the content
-pub ended : (content : List ℕ) (h : Header) (n : ℕ) (others : List (List ℕ)) (p : Parts) (r : Result RawSystem AutError) → IsBegun content h n others → AreMoves h.states others (named_moves p) → length p.moves ≤ 1048576 →
+pub ended : (content : List ℕ) (h : Header) (n : ℕ) (others : List (List ℕ)) (p : Parts) (r : Result RawSystem AutError) → IsBegun content h n others → AreMoves h.states others (named_moves p) → length p.moves ≤ MOST_MOVES →
     MatchResult r (λ raw. (raw ≡ record { states = h.states; start = h.start; labels = p.labels; moves = p.moves }) × (length p.moves ≡ h.transitions)) (λ e. (e ≡ Memory) ⊎ ((e ≡ Count h.transitions (length p.moves)) × (h.transitions ≡ length p.moves → ⊥))) →
     MatchResult r (IsAut content) (RefusesAut content)
 ended content h n others p (Ok raw) begun moves few (is, count) = rw is (record { h = h; n = n; others = others; begun = begun; start = refl; states = refl; moves = moves; count = count })

@@ -22,6 +22,7 @@ use Rattle.text_scan.proofs.CutLaws.{differs}
 use Rattle.aut_text.specs.declared.header.Header.{Header}
 use Rattle.aut_text.specs.Grammar.{is_text}
 use Rattle.aut_text.specs.Form.{IsOpening, IsClosing, IsBeginning, IsHeader, Written, IsMove, unquoted, label_in}
+use Rattle.lts_base.specs.declared.limits.TheConstants.{MOST_LABEL_BYTES, MOST_LINE_BYTES}
 
 -- what is written of a number is a decimal of it
 pub decimal_is : (n : ℕ) → n < 2 ^ 32 → IsDecimal (decimal n) n
@@ -270,14 +271,14 @@ move_utf8 a label b da utf8 db =
     IsUtf8-add 40 _ (omega arith) (IsUtf8-append a (44 ∷ 34 ∷ (label ++ 34 ∷ 44 ∷ (b ++ 41 ∷ []))) (IsUtf8-digits a da) others)
 
 -- they are short
-pub header_short : (a b c : List ℕ) → length a ≤ 20 → length b ≤ 20 → length c ≤ 20 → length (header_line a b c) ≤ 4096
+pub header_short : (a b c : List ℕ) → length a ≤ 20 → length b ≤ 20 → length c ≤ 20 → length (header_line a b c) ≤ MOST_LINE_BYTES
 header_short a b c sa sb sc =
     let third : length (c ++ 41 ∷ []) ≡ length c + 1 = length-append c (41 ∷ []) in
     let second : length (b ++ 44 ∷ (c ++ 41 ∷ [])) ≡ length b + suc (length (c ++ 41 ∷ [])) = length-append b (44 ∷ (c ++ 41 ∷ [])) in
     let first : length (a ++ 44 ∷ (b ++ 44 ∷ (c ++ 41 ∷ []))) ≡ length a + suc (length (b ++ 44 ∷ (c ++ 41 ∷ []))) = length-append a (44 ∷ (b ++ 44 ∷ (c ++ 41 ∷ []))) in
     omega (arith, first, second, third, sa, sb, sc)
 
-pub move_short : (a label b : List ℕ) → length a ≤ 20 → length label ≤ 1024 → length b ≤ 20 → length (move_line a label b) ≤ 4096
+pub move_short : (a label b : List ℕ) → length a ≤ 20 → length label ≤ MOST_LABEL_BYTES → length b ≤ 20 → length (move_line a label b) ≤ MOST_LINE_BYTES
 move_short a label b sa short sb =
     let third : length (b ++ 41 ∷ []) ≡ length b + 1 = length-append b (41 ∷ []) in
     let second : length (label ++ 34 ∷ 44 ∷ (b ++ 41 ∷ [])) ≡ length label + suc (suc (length (b ++ 41 ∷ []))) = length-append label (34 ∷ 44 ∷ (b ++ 41 ∷ [])) in

@@ -1,6 +1,5 @@
 -- What is printed of a system is split again into the same alphabet and the same system.
-use Rattle.std.proofs.Common.{◌≡◌, ◌∙◌, ℕ, zero, suc, ◌<◌, Bool, List, [], ◌∷◌, length, map, get_or, Option, Some, None, IsSome, option_map, All, Contains, refl, sym, ap, subst, arith}
-use Rattle.std.proofs.lemmas.Bool.{false≢true}
+use Rattle.std.proofs.Common.{◌≡◌, ◌∙◌, ℕ, zero, suc, ◌<◌, List, [], ◌∷◌, length, map, get_or, Option, Some, None, option_map, All, Contains, refl, sym, ap, subst, arith}
 use Rattle.std.proofs.lemmas.List.{append-nil, length-map, get_or-map, get_or_default}
 use Rattle.std.proofs.lemmas.List.Elements.{All-contains, Contains-get_or}
 use Rattle.std.proofs.lemmas.List.Sorted.{IsPermutation-refl, Contains-permutation}
@@ -9,15 +8,14 @@ use Rattle.lts_base.specs.declared.action.Act.TheVariants.{Tau, Label}
 use Rattle.lts_base.specs.declared.action.Move.{Move}
 use Rattle.lts_base.specs.declared.raw.RawMove.{RawMove}
 use Rattle.lts_base.specs.declared.sorting.Rule.{Rule}
-use Rattle.lts_base.specs.declared.sorting.SplitError.{SplitError}
-use Rattle.lts_base.specs.declared.sorting.SplitError.TheVariants.{Unsorted, Reserved, TooManyLabels, Memory}
-use Rattle.lts_base.specs.System.{System, IsSystem, IsMoveOf, IsActOf}
+use Rattle.lts_base.specs.declared.divergence.Divergence.TheVariants.{Refuse}
+use Rattle.lts_base.specs.System.{System, IsSystem, IsMoveOf, IsActOf, refused}
+use Rattle.lts_base.proofs.SplitOnce.{system_once, memory_alone}
 use Rattle.lts_base.specs.Built.{move_at}
 use Rattle.lts_base.specs.Alphabet.{Alphabet, IsAlphabet, IsOver, text_at}
 use Rattle.lts_base.specs.Raw.{RawSystem, IsRaw, as_move, raw_act, raw_move_at}
-use Rattle.lts_base.specs.Sorting.{side_of, IsGoodLabel, all_labels, RefusesSplit, IsAlphabetOf, IsActFor, AreMovesFor, IsSystemFor, AreSystemsFor, raw_at, system_at}
-use Rattle.lts_base.proofs.UniqueLaws.{alphabet_unique, number_unique, system_moves_unique, none_more}
-use Rattle.lts_base.proofs.PermutedLaws.{sorted_moves_unique}
+use Rattle.lts_base.specs.Sorting.{IsGoodLabel, all_labels, IsAlphabetOf, IsActFor, AreMovesFor, IsSystemFor, AreSystemsFor, raw_at, system_at}
+use Rattle.lts_base.proofs.UniqueLaws.{alphabet_unique, number_unique}
 use Rattle.aut_text.specs.Parts.{NamedMove, named}
 use Rattle.aut_text.specs.Grammar.{IsAut, SaysSame}
 use Rattle.aut_text.specs.Printed.{act_label, named_move, Says, printed, AreWritable, FitsFile, UsesAll, IsSortedBy, SplitsInto}
@@ -112,29 +110,14 @@ alphabet_again rule a r alphabet sorted into back = record {
   sides = sorted.sides;
 }
 
--- what is sorted nowhere isn't sorted
-not_some : (o : Option Bool) → o ≡ None → IsSome o → ⊥
-not_some None e some = cc some
-not_some (Some b) e some = cc e
-
--- labels that are good, and no more than 1,024 distinct ones, are refused for want of memory alone
-memory_alone : (rule : Rule) (raws : List RawSystem) (a : Alphabet) → IsAlphabetOf rule raws a → (e : SplitError) → RefusesSplit rule raws e → e ≡ Memory
-memory_alone rule raws a is (Reserved told) (k, fault) =
-    let good : IsGoodLabel rule (text_at (all_labels raws) k) = is.good k [] fault.below in
-    absurd (false≢true (sym good.free ∙ fault.fault.1))
-memory_alone rule raws a is (Unsorted told) (k, fault) =
-    let good : IsGoodLabel rule (text_at (all_labels raws) k) = is.good k [] fault.below in
-    absurd (not_some (side_of rule (text_at (all_labels raws) k)) fault.fault.2 good.sorted)
-memory_alone rule raws a is TooManyLabels (good, (texts, more)) = absurd (none_more 1024 texts (all_labels raws) a.texts is.all is.alphabet.few more)
-memory_alone rule raws a is Memory h = refl
-
 -- the system is that of the file over the alphabet
-system_again : (a : Alphabet) (s : System) (r : RawSystem) → IsOver a s → Says a s r → AreMovesFor a r s.moves → IsSystemFor a r s
-system_again a s r over says moves = record {
+system_again : (a : Alphabet) (s : System) (r : RawSystem) → s.divergence ≡ Refuse → IsOver a s → Says a s r → AreMovesFor a r s.moves → IsSystemFor a r s
+system_again a s r plain over says moves = record {
   states = sym says.states;
   start = sym says.start;
   inputs = over.inputs;
   outputs = over.outputs;
+  divergence = plain;
   moves = (s.moves, moves, IsPermutation-refl s.moves);
 }
 
@@ -146,27 +129,18 @@ one_system a s r is = record { long = refl; each = one }
     one zero below = is
     one (suc k) below = absurd (omega (arith, below))
 
--- systems that agree in each part are equal
-same_parts : (s t : System) → t.states ≡ s.states → t.start ≡ s.start → t.inputs ≡ s.inputs → t.outputs ≡ s.outputs → t.moves ≡ s.moves → t ≡ s
-same_parts s t states start inputs outputs moves =
-    let F : ℕ → ℕ → ℕ → ℕ → List Move → System = λ states start inputs outputs moves. record { states = states; start = start; inputs = inputs; outputs = outputs; moves = moves } in
-    ap (λ n. F n t.start t.inputs t.outputs t.moves) states ∙ ap (λ n. F s.states n t.inputs t.outputs t.moves) start ∙
-    ap (λ n. F s.states s.start n t.outputs t.moves) inputs ∙ ap (λ n. F s.states s.start s.inputs n t.moves) outputs ∙ ap (F s.states s.start s.inputs s.outputs) moves
-
 -- a file gives no other alphabet and no other system
 only_this : (rule : Rule) (a b : Alphabet) (s t : System) (r : RawSystem) → IsSystem s → IsAlphabetOf rule (r ∷ []) a → IsSystemFor a r s → IsSystem t → IsAlphabetOf rule (r ∷ []) b → IsSystemFor b r t → (b ≡ a) × (t ≡ s)
 only_this rule a b s t r system is one system' other two =
     let same : b ≡ a = alphabet_unique rule (r ∷ []) b a other is in
-    let two' : IsSystemFor a r t = subst (λ (c : Alphabet). IsSystemFor c r t) same two in
-    let moves : s.moves ≡ t.moves = sorted_moves_unique s.moves t.moves system.sorted system'.sorted (system_moves_unique a is.alphabet r s t one two') in
-    (same, same_parts s t (two'.states ∙ sym one.states) (two'.start ∙ sym one.start) (two'.inputs ∙ sym one.inputs) (two'.outputs ∙ sym one.outputs) (sym moves))
+    (same, system_once a r s t is.alphabet system system' one (subst (λ (c : Alphabet). IsSystemFor c r t) same two))
 
 -- the system of a file that says what a system says splits into this system again, where its moves carry all labels
-pub splits_again : (rule : Rule) (a : Alphabet) (s : System) (r : RawSystem) → IsAlphabet a → IsOver a s → IsSystem s → IsSortedBy rule a → UsesAll a s → IsRaw r → Says a s r → SplitsInto rule r a s
-splits_again rule a s r alphabet over system sorted uses raw says =
+pub splits_again : (rule : Rule) (a : Alphabet) (s : System) (r : RawSystem) → IsAlphabet a → IsOver a s → IsSystem s → s.divergence ≡ Refuse → IsSortedBy rule a → UsesAll a s → IsRaw r → Says a s r → SplitsInto rule r a s
+splits_again rule a s r alphabet over system plain sorted uses raw says =
     let moves : AreMovesFor a r s.moves = moves_for a s r alphabet over system says in
     let is : IsAlphabetOf rule (r ∷ []) a = alphabet_again rule a r alphabet sorted (labels_in a s r moves raw) (texts_in a s r moves raw uses) in
-    let one : IsSystemFor a r s = system_again a s r over says moves in
+    let one : IsSystemFor a r s = system_again a s r plain over says moves in
     record {
       refused = memory_alone rule (r ∷ []) a is;
       alphabet = is;
@@ -186,9 +160,14 @@ read_says a s r alphabet over system writable fits read =
     record { states = same.states ∙ says.states; start = same.start ∙ says.start; moves = same.moves ∙ says.moves }
 
 -- what is read of the printed text splits into the same alphabet and the same system, where the moves carry all labels
-pub read_splits : (rule : Rule) (a : Alphabet) (s : System) (r : RawSystem) → IsAlphabet a → IsOver a s → IsSystem s → FitsFile s → UsesAll a s → IsSortedBy rule a → IsAut (printed a s) r → IsRaw r → SplitsInto rule r a s
+pub read_splits : (rule : Rule) (a : Alphabet) (s : System) (r : RawSystem) → IsAlphabet a → IsOver a s → IsSystem s → FitsFile s → UsesAll a s → IsSortedBy rule a → IsAut (printed a s) r → IsRaw r → SplitsInto rule r a (refused s)
 read_splits rule a s r alphabet over system fits uses sorted read raw =
-    splits_again rule a s r alphabet over system sorted uses raw (read_says a s r alphabet over system (writable_sorted rule a sorted) fits read)
+    let says = read_says a s r alphabet over system (writable_sorted rule a sorted) fits read in
+    splits_again rule a (refused s) r alphabet
+    (record { inputs = over.inputs; outputs = over.outputs })
+    (record { start = system.start; states = system.states; few = system.few; moves = system.moves; sorted = system.sorted })
+    refl sorted uses raw
+    (record { states = says.states; start = says.start; moves = says.moves })
 
 -- the alphabet that a rule has made is sorted by it
 pub IsSortedBy-split : (rule : Rule) (raws : List RawSystem) (a : Alphabet) → IsAlphabetOf rule raws a → IsSortedBy rule a

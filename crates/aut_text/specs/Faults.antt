@@ -1,4 +1,4 @@
--- Why a content is no Aldebaran file: its first fault.
+-- Promise: why a content is no Aldebaran file: its first fault.
 use Rattle.std.specs.Prelude.{◌≡◌, ℕ, ◌+◌, ◌<◌, ◌≤◌, true, List, ◌∷◌, ◌++◌, length, ◌⊎◌}
 use Rattle.std.specs.Str.{IsUtf8}
 use Rattle.text_scan.specs.Lines.{without_cr}
@@ -8,39 +8,40 @@ use Rattle.aut_text.specs.declared.error.AutError.TheVariants.{Header as BadHead
 use Rattle.aut_text.specs.Parts.{NamedMove}
 use Rattle.aut_text.specs.Form.{Written, IsHeader, IsMove}
 use Rattle.aut_text.specs.Grammar.{is_text, IsClean, AreMoves, IsHeaded, IsBlankContent, IsBegun}
+use Rattle.lts_base.specs.declared.limits.TheConstants.{MOST_LABEL_BYTES, MOST_LINE_BYTES, MOST_MOVES, MOST_STATES}
 
 -- the line isn't a header of at most 4,096 bytes of UTF-8, or it is one whose start isn't below its states, while these
 -- and the transitions are within the limits
 abbrev pub IsNoHeader : List ℕ → Type 0
 IsNoHeader line =
-    (4096 < length line) ⊎
-    ((length line ≤ 4096) × (IsUtf8 (without_cr line) → ⊥)) ⊎
-    (IsClean line × ((h : Header) → IsHeader (without_cr line) h → ⊥)) ⊎
-    (IsClean line × ((h : Header) × IsHeader (without_cr line) h × (h.states ≤ 65536) × (h.transitions ≤ 1048576) × (h.states ≤ h.start)))
+    (MOST_LINE_BYTES < length line) ⊎
+    ((length line ≤ MOST_LINE_BYTES) × ¬ IsUtf8 (without_cr line)) ⊎
+    (IsClean line × ((h : Header) → ¬ IsHeader (without_cr line) h)) ⊎
+    (IsClean line × ((h : Header) × IsHeader (without_cr line) h × (h.states ≤ MOST_STATES) × (h.transitions ≤ MOST_MOVES) × (h.states ≤ h.start)))
 
 -- the fault of the header's line
 abbrev pub IsHeaderFault : List ℕ → AutError → Type 0
 IsHeaderFault line BadHeader = IsNoHeader line
-IsHeaderFault line TooManyStates = IsClean line × ((h : Header) × IsHeader (without_cr line) h × (65536 < h.states))
-IsHeaderFault line TooManyMoves = IsClean line × ((h : Header) × IsHeader (without_cr line) h × (h.states ≤ 65536) × (1048576 < h.transitions))
+IsHeaderFault line TooManyStates = IsClean line × ((h : Header) × IsHeader (without_cr line) h × (MOST_STATES < h.states))
+IsHeaderFault line TooManyMoves = IsClean line × ((h : Header) × IsHeader (without_cr line) h × (h.states ≤ MOST_STATES) × (MOST_MOVES < h.transitions))
 IsHeaderFault line other = ⊥
 
 -- the text writes no move
 abbrev pub IsNoMove : List ℕ → Type 0
-IsNoMove text = (w : Written) → IsMove text w → ⊥
+IsNoMove text = (w : Written) → ¬ IsMove text w
 
 -- the line writes the move, and so many moves before it leave room for it
 abbrev pub IsMoveAfter : ℕ → List ℕ → Written → Type 0
-IsMoveAfter count line w = IsClean line × IsMove (without_cr line) w × (count < 1048576)
+IsMoveAfter count line w = IsClean line × IsMove (without_cr line) w × (count < MOST_MOVES)
 
 -- the fault of line k, which isn't blank and has so many moves before it: it is too long, or isn't UTF-8, or writes no move;
 -- it is a move too many; an end isn't below the states; the label is too long
 abbrev pub IsLineFault : ℕ → ℕ → List ℕ → ℕ → AutError → Type 0
-IsLineFault states count line k (Line n) = (n ≡ k) × ((4096 < length line) ⊎ (IsClean line × IsNoMove (without_cr line)))
-IsLineFault states count line k (NotUtf8 n) = (n ≡ k) × (length line ≤ 4096) × (IsUtf8 (without_cr line) → ⊥)
-IsLineFault states count line k TooManyMoves = IsClean line × ((w : Written) × IsMove (without_cr line) w × (1048576 ≤ count))
-IsLineFault states count line k (State n) = (n ≡ k) × ((w : Written) × IsMoveAfter count line w × ((w.from < states) × (w.to < states) → ⊥))
-IsLineFault states count line k (LabelLong n) = (n ≡ k) × ((w : Written) × IsMoveAfter count line w × (w.from < states) × (w.to < states) × (1024 < length w.label))
+IsLineFault states count line k (Line n) = (n ≡ k) × ((MOST_LINE_BYTES < length line) ⊎ (IsClean line × IsNoMove (without_cr line)))
+IsLineFault states count line k (NotUtf8 n) = (n ≡ k) × (length line ≤ MOST_LINE_BYTES) × ¬ IsUtf8 (without_cr line)
+IsLineFault states count line k TooManyMoves = IsClean line × ((w : Written) × IsMove (without_cr line) w × (MOST_MOVES ≤ count))
+IsLineFault states count line k (State n) = (n ≡ k) × ((w : Written) × IsMoveAfter count line w × ¬ ((w.from < states) × (w.to < states)))
+IsLineFault states count line k (LabelLong n) = (n ≡ k) × ((w : Written) × IsMoveAfter count line w × (w.from < states) × (w.to < states) × (MOST_LABEL_BYTES < length w.label))
 IsLineFault states count line k Memory = Unit {0}
 IsLineFault states count line k other = ⊥
 
@@ -52,7 +53,7 @@ pub record IsFaultAmong (states : ℕ) (n : ℕ) (lines : List (List ℕ)) (e : 
   pub moves : List NamedMove
   pub lines_are : lines ≡ good ++ bad ∷ rest
   pub moves_are : AreMoves states good moves
-  pub few : length moves ≤ 1048576
+  pub few : length moves ≤ MOST_MOVES
   pub text : is_text bad ≡ true
   pub fault : IsLineFault states (length moves) bad (n + length good + 1) e
 
@@ -82,8 +83,8 @@ pub record IsMiscounted (content : List ℕ) (declared found : ℕ) : Type 0 whe
   pub moves_are : AreMoves h.states others moves
   pub declared_is : declared ≡ h.transitions
   pub found_is : found ≡ length moves
-  pub few : length moves ≤ 1048576
-  pub differ : declared ≡ found → ⊥
+  pub few : length moves ≤ MOST_MOVES
+  pub differ : ¬ (declared ≡ found)
 
 -- why the content is no Aldebaran file
 abbrev pub RefusesAut : List ℕ → AutError → Type 0
@@ -96,3 +97,7 @@ RefusesAut content (State n) = IsLaterFault content (State n)
 RefusesAut content (LabelLong n) = IsLaterFault content (LabelLong n)
 RefusesAut content (Count declared found) = IsMiscounted content declared found
 RefusesAut content Memory = Unit {0}
+
+-- the error is this one, or want of memory
+abbrev pub IsOrMemory : AutError → AutError → Type 0
+IsOrMemory e f = (f ≡ e) ⊎ (f ≡ Memory)

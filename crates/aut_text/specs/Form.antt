@@ -1,4 +1,4 @@
--- The forms of a header and of a move in an Aldebaran file.
+-- Promise: the forms of a header and of a move in an Aldebaran file.
 use Rattle.std.specs.Prelude.{◌≡◌, ℕ, ◌-◌, ◌<◌, Bool, ◌==◌, false, nat_lt, List, [], ◌∷◌, ◌++◌, length, take, drop, Option, Some, None, if◌then◌else◌, codes, slice_index_or as get_or}
 use Rattle.std.specs.Str.{bytes_eq}
 use Rattle.text_scan.specs.Decimal.{IsDecimal}

@@ -1,14 +1,15 @@
--- What an Aldebaran file says.
+-- Promise: what an Aldebaran file says.
 use Rattle.std.specs.Prelude.{◌≡◌, ℕ, ◌+◌, ◌<◌, ◌≤◌, Bool, true, List, [], ◌∷◌, ◌++◌, length, filter}
 use Rattle.std.specs.List.{AllZip}
 use Rattle.std.specs.Str.{IsUtf8}
-use Rattle.lts_base.specs.Raw.{RawSystem}
+use Rattle.lts_base.specs.Raw.{RawSystem, IsRaw}
 use Rattle.text_scan.specs.Blank.{trimmed}
 use Rattle.text_scan.specs.Lines.{lines_of, without_cr}
 use Rattle.text_scan.specs.Listing.{has_bytes}
 use Rattle.aut_text.specs.declared.header.Header.{Header}
 use Rattle.aut_text.specs.Parts.{NamedMove, named_moves}
 use Rattle.aut_text.specs.Form.{Written, IsHeader, IsMove, visible}
+use Rattle.lts_base.specs.declared.limits.TheConstants.{MOST_LABEL_BYTES, MOST_LINE_BYTES, MOST_MOVES, MOST_STATES}
 
 -- the line isn't one of blanks alone
 abbrev pub is_text : List ℕ → Bool
@@ -16,15 +17,15 @@ is_text line = has_bytes (trimmed (without_cr line))
 
 -- the line has at most 4,096 bytes, and is UTF-8
 pub record IsClean (line : List ℕ) : Type 0 where
-  pub short : length line ≤ 4096
+  pub short : length line ≤ MOST_LINE_BYTES
   pub utf8 : IsUtf8 (without_cr line)
 
 -- the line is a header with at most 65,536 states and 1,048,576 transitions, and its start is below its states
 pub record IsHeaderLine (line : List ℕ) (h : Header) : Type 0 where
   pub clean : IsClean line
   pub form : IsHeader (without_cr line) h
-  pub states : h.states ≤ 65536
-  pub transitions : h.transitions ≤ 1048576
+  pub states : h.states ≤ MOST_STATES
+  pub transitions : h.transitions ≤ MOST_MOVES
   pub start : h.start < h.states
 
 -- the line writes the move, whose ends are below the states and whose label has at most 1,024 bytes
@@ -33,7 +34,7 @@ pub record IsWrittenLine (states : ℕ) (line : List ℕ) (w : Written) : Type 0
   pub form : IsMove (without_cr line) w
   pub from : w.from < states
   pub to : w.to < states
-  pub label : length w.label ≤ 1024
+  pub label : length w.label ≤ MOST_LABEL_BYTES
 
 -- the line is that of the move
 pub record IsMoveLine (states : ℕ) (line : List ℕ) (m : NamedMove) : Type 0 where
@@ -78,6 +79,12 @@ pub record IsAut (content : List ℕ) (r : RawSystem) : Type 0 where
   pub states : r.states ≡ h.states
   pub moves : AreMoves h.states others (has_moves r)
   pub count : length r.moves ≡ h.transitions
+
+-- the content is an Aldebaran file of the system, whose labels stand in the order of their first use; so it is the file of
+-- this system alone
+pub record IsAutFile (content : List ℕ) (r : RawSystem) : Type 0 where
+  pub file : IsAut content r
+  pub sound : IsRaw r
 
 -- the two systems are the same but for the numbers of their labels
 pub record SaysSame (r s : RawSystem) : Type 0 where

@@ -1,4 +1,4 @@
--- The moves of a file with the texts of their labels, and how the label list of a system is made of them.
+-- Private: the moves of a file with the texts of their labels, and how the label list of a system is made of them.
 use Rattle.std.specs.Prelude.{◌≡◌, ℕ, ◌<◌, ◌≤◌, List, [], ◌∷◌, ◌++◌, ◌+◌, length, map, All, Option, option_map, ◌⊎◌}
 use Rattle.lts_base.specs.declared.raw.RawMove.{RawMove}
 use Rattle.lts_base.specs.Alphabet.{IsLabel, text_at}
@@ -31,12 +31,12 @@ pub record IsParts (p : Parts) : Type 0 where
 
 -- none of the texts is this one
 abbrev pub Lacks : List (List ℕ) → List ℕ → Type 0
-Lacks labels text = (k : ℕ) → k < length labels → text_at labels k ≡ text → ⊥
+Lacks labels text = (k : ℕ) → k < length labels → ¬ (text_at labels k ≡ text)
 
 -- the texts are distinct labels
 pub record AreTexts (labels : List (List ℕ)) : Type 0 where
   pub texts : All IsLabel labels
-  pub distinct : (j k : ℕ) → j < k → k < length labels → text_at labels j ≡ text_at labels k → ⊥
+  pub distinct : (j k : ℕ) → j < k → k < length labels → ¬ (text_at labels j ≡ text_at labels k)
 
 -- n is the place of the text, which stood there before or is new at the end
 abbrev pub IsNumber : List (List ℕ) → List (List ℕ) → List ℕ → ℕ → Type 0

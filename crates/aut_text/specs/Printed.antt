@@ -1,4 +1,4 @@
--- The text of a system as an Aldebaran file.
+-- Promise: the text of a system as an Aldebaran file.
 use Rattle.std.specs.Prelude.{◌≡◌, ℕ, ◌<◌, ◌≤◌, false, List, [], ◌∷◌, ◌++◌, length, map, All, Option, Some, None, codes, decimal, nat_lt}
 use Rattle.std.specs.List.{flat_map}
 use Rattle.std.specs.Str.{bytes_eq}
@@ -8,13 +8,14 @@ use Rattle.lts_base.specs.declared.action.Move.{Move}
 use Rattle.lts_base.specs.declared.sorting.Rule.{Rule}
 use Rattle.lts_base.specs.declared.sorting.SplitError.{SplitError}
 use Rattle.lts_base.specs.declared.sorting.SplitError.TheVariants.{Memory}
-use Rattle.lts_base.specs.System.{System, IsSystem}
-use Rattle.lts_base.specs.Raw.{RawSystem}
+use Rattle.lts_base.specs.System.{System, IsSystem, refused}
+use Rattle.lts_base.specs.Raw.{RawSystem, IsRaw}
 use Rattle.lts_base.specs.Alphabet.{Alphabet, text_at}
 use Rattle.lts_base.specs.Built.{move_at}
 use Rattle.lts_base.specs.Sorting.{side_of, IsGoodLabel, RefusesSplit, IsAlphabetOf, AreSystemsFor}
 use Rattle.aut_text.specs.Parts.{NamedMove}
-use Rattle.aut_text.specs.Grammar.{has_moves}
+use Rattle.aut_text.specs.Grammar.{has_moves, IsAut}
+use Rattle.lts_base.specs.declared.limits.TheConstants.{MOST_MOVES, MOST_STATES}
 
 -- the text of what a move carries
 abbrev pub act_text : List (List ℕ) → Act → List ℕ
@@ -64,8 +65,8 @@ AreWritable texts = All IsWritable texts
 
 -- a file has room for the system: at most 65,536 states and 1,048,576 moves
 pub record FitsFile (s : System) : Type 0 where
-  pub states : s.states ≤ 65536
-  pub moves : length s.moves ≤ 1048576
+  pub states : s.states ≤ MOST_STATES
+  pub moves : length s.moves ≤ MOST_MOVES
 
 -- the system's moves carry every label of the alphabet
 abbrev pub UsesAll : Alphabet → System → Type 0
@@ -83,3 +84,8 @@ pub record SplitsInto (rule : Rule) (r : RawSystem) (a : Alphabet) (s : System) 
   pub alphabet : IsAlphabetOf rule (r ∷ []) a
   pub systems : AreSystemsFor a (r ∷ []) (s ∷ [])
   pub only : (b : Alphabet) (t : System) → IsAlphabetOf rule (r ∷ []) b → AreSystemsFor b (r ∷ []) (t ∷ []) → IsSystem t → (b ≡ a) × (t ≡ s)
+
+-- split by the rule, each raw system that the text is a file of gives this alphabet and this system, read so that cycles of internal
+-- moves mean nothing
+abbrev pub SplitsBy : Rule → Alphabet → System → List ℕ → Type 0
+SplitsBy rule a s text = (r : RawSystem) → IsAut text r → IsRaw r → SplitsInto rule r a (refused s)

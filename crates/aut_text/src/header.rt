@@ -1,4 +1,5 @@
 //! The line of the header.
+ghost use Rattle.lts_base.specs.declared.limits.TheConstants.{MOST_LINE_BYTES};
 ghost use Rattle.std.specs.Prelude.{◌≡◌, MatchResult};
 ghost use Rattle.text_scan.specs.Lines as lines;
 ghost use Rattle.aut_text.specs.Form.{IsHeader};
@@ -7,6 +8,7 @@ ghost use Rattle.aut_text.specs.Faults.{IsHeaderFault};
 
 use crate::error::AutError;
 use crate::form::header_of;
+use lts_base::limits::{MOST_LINE_BYTES, MOST_MOVES, MOST_STATES};
 use std::str;
 use text_scan::without_cr;
 
@@ -25,7 +27,7 @@ pub struct Header {
 pub(crate) fn read_header(line: &[u8]) -> Result<Header, AutError>
     ensures { MatchResult result (IsHeaderLine line.now) (IsHeaderFault line.now) }
 {
-    if line.len() > 4096 {
+    if line.len() > MOST_LINE_BYTES {
         return Err(AutError::Header);
     }
     let text = without_cr(line);
@@ -44,10 +46,10 @@ fn within(_line: &[u8], header: Header) -> Result<Header, AutError>
     requires form { IsHeader (lines.without_cr _line.now) header }
     ensures { MatchResult result (IsHeaderLine _line.now) (IsHeaderFault _line.now) }
 {
-    if header.states > 65_536 {
+    if header.states > MOST_STATES as u64 {
         return Err(AutError::TooManyStates);
     }
-    if header.transitions > 1_048_576 {
+    if header.transitions > MOST_MOVES as u64 {
         return Err(AutError::TooManyMoves);
     }
     if header.start >= header.states {

@@ -9,11 +9,7 @@ mod line;
 mod parts;
 mod printer;
 mod reader;
-#[cfg(test)]
-mod tests;
 
 pub use error::AutError;
-pub use labels::LabelTable;
-pub use parts::RawParts;
 pub use printer::print;
 pub use reader::AutReader;

@@ -1,4 +1,5 @@
 //! The line of a move.
+ghost use Rattle.lts_base.specs.declared.limits.TheConstants.{MOST_LABEL_BYTES, MOST_LINE_BYTES, MOST_STATES};
 ghost use Rattle.std.specs.Prelude.{◌≡◌, ◌≤◌, ◌<◌, true, length, option_map, MatchResult};
 ghost use Rattle.lts_base.specs.Alphabet.{IsLabel};
 ghost use Rattle.text_scan.specs.Lines as lines;
@@ -11,6 +12,7 @@ ghost use Rattle.aut_text.specs.Reading.{IsNextMove, AddsLine};
 use crate::error::AutError;
 use crate::form::move_of;
 use crate::parts::RawParts;
+use lts_base::limits::{MOST_LABEL_BYTES, MOST_LINE_BYTES, MOST_MOVES};
 use std::str;
 use text_scan::{trim, without_cr};
 
@@ -28,7 +30,7 @@ pub(crate) fn add_line(
     number: u32,
     states: u64,
 ) -> Result<(), AutError>
-    requires { states ≤ 65536 }
+    requires { states ≤ MOST_STATES }
     ensures { MatchResult result (λ _. AddsLine states line.now (named_moves parts.old) (named_moves parts.new)) (λ e. (grammar.is_text line.now ≡ true) × IsLineFault states (length parts.old.moves) line.now number e) }
 {
     if !is_text(line) {
@@ -46,10 +48,10 @@ pub(crate) fn read_move(
     count: usize,
     states: u64,
 ) -> Result<(u32, &[u8], u32), AutError>
-    requires { states ≤ 65536 }
+    requires { states ≤ MOST_STATES }
     ensures { MatchResult result (λ m. IsNextMove states count line.now (record { from = m.0; label = m.1.now; to = m.2 })) (IsLineFault states count line.now number) }
 {
-    if line.len() > 4096 {
+    if line.len() > MOST_LINE_BYTES {
         return Err(AutError::Line(number));
     }
     let text = without_cr(line);
@@ -59,7 +61,7 @@ pub(crate) fn read_move(
     let Some((from, label, to)) = move_of(text) else {
         return Err(AutError::Line(number));
     };
-    if count >= 1_048_576 {
+    if count >= MOST_MOVES as usize {
         return Err(AutError::TooManyMoves);
     }
     if from >= states {
@@ -68,7 +70,7 @@ pub(crate) fn read_move(
     if to >= states {
         return Err(AutError::State(number));
     }
-    if label.len() > 1024 {
+    if label.len() > MOST_LABEL_BYTES {
         return Err(AutError::LabelLong(number));
     }
     Ok((from as u32, label, to as u32))

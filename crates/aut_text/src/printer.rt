@@ -1,10 +1,9 @@
 //! The text of a system.
 ghost use Rattle.std.specs.Prelude.{◌≡◌, ◌++◌, ◌<◌, length, IfOk, OnOk};
-ghost use Rattle.lts_base.specs.System.{IsActOf};
+ghost use Rattle.lts_base.specs.System.{IsActOf, refused};
 ghost use Rattle.lts_base.specs.Alphabet.{IsOver};
-ghost use Rattle.lts_base.specs.Raw.{IsRaw};
 ghost use Rattle.aut_text.specs.Grammar.{IsAut};
-ghost use Rattle.aut_text.specs.Printed.{AreWritable, FitsFile, Says, UsesAll, IsSortedBy, SplitsInto};
+ghost use Rattle.aut_text.specs.Printed.{AreWritable, FitsFile, Says, UsesAll, IsSortedBy, SplitsBy};
 ghost use Rattle.aut_text.specs.Printed as text_of;
 
 use lts_base::{Act, Labels, Lts, Memory, Move, Text};
@@ -12,12 +11,13 @@ use std::alloc::{AllocError, Global};
 
 /// The system as an Aldebaran file without blanks, its labels in quotes. Where a file has room for
 /// it and no label is `i` or `tau`, the text is a file of the same system. Where the moves carry
-/// all labels, the same rule splits that file into the same labels and the same system.
+/// all labels, the same rule splits that file into the same labels and the same system, read so that
+/// cycles of internal moves mean nothing.
 pub fn print(alloc: Global, lts: &Lts, labels: &Labels) -> Result<Text, Memory>
     requires { IsOver labels.now lts.now }
     ensures text { IfOk result (λ text. text ≡ text_of.printed labels.now lts.now) }
     ensures again { AreWritable labels.now.texts → FitsFile lts.now → (r : _) → Says labels.now lts.now r → IfOk result (λ text. IsAut text r) }
-    ensures splits { FitsFile lts.now → UsesAll labels.now lts.now → (rule : _) → IsSortedBy rule labels.now → IfOk result (λ text. (r : _) → IsAut text r → IsRaw r → SplitsInto rule r labels.now lts.now) }
+    ensures splits { FitsFile lts.now → UsesAll labels.now lts.now → (rule : _) → IsSortedBy rule labels.now → IfOk result (SplitsBy rule labels.now lts.now) }
 {
     // the call tells that the inputs are among the labels
     let _ = labels.count();

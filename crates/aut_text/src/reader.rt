@@ -1,10 +1,12 @@
 //! The reader of Aldebaran files.
+ghost use Rattle.lts_base.specs.declared.limits.TheConstants.{MOST_MOVES, MOST_STATES};
 ghost use Rattle.std.specs.Prelude.{◌≡◌, ◌⊎◌, ◌+◌, ◌-◌, ◌^◌, ◌<◌, ◌≤◌, [], ◌++◌, length, All, MatchOption, MatchResult, IfOk, IfErr, OnOk, OnErr};
 ghost use Rattle.text_scan.specs.Lines.{lines_of};
 ghost use Rattle.aut_text.specs.Parts.{named_moves};
-ghost use Rattle.aut_text.specs.Grammar.{AreMoves, IsHeaded, IsBlankContent, IsAut, SaysSame};
-ghost use Rattle.aut_text.specs.Faults.{IsFaultAmong, RefusesAut};
-ghost use Rattle.aut_text.specs.Reading.{IsWithin};
+ghost use Rattle.aut_text.specs.Grammar.{AreMoves, IsHeaded, IsBlankContent, IsAut, IsAutFile};
+ghost use Rattle.lts_base.specs.Raw.{IsRaw};
+ghost use Rattle.aut_text.specs.Faults.{IsFaultAmong, IsOrMemory, RefusesAut};
+ghost use Rattle.aut_text.specs.Reading.{IsWithin, IsFinished, IsMiscount};
 
 use crate::error::AutError;
 use crate::header::{Header, read_header};
@@ -54,9 +56,9 @@ impl AutReader {
     /// Reads the content, which has fewer than 2^32 - 1 lines.
     pub fn end(self) -> Result<RawLts, AutError>
         requires { length (lines_of self) < 2 ^ 32 - 1 }
-        ensures read { MatchResult result (IsAut self) (RefusesAut self) }
-        ensures only { (r : _) → IsAut self r → MatchResult result (SaysSame r) (λ e. e ≡ AutError.Memory) }
-        ensures fault { (e : _) → RefusesAut self e → (e ≡ AutError.Memory → ⊥) → MatchResult result (λ _. ⊥) (λ f. (f ≡ e) ⊎ (f ≡ AutError.Memory)) }
+        ensures read { MatchResult result (IsAutFile self) (RefusesAut self) }
+        ensures only { (r : _) → IsAutFile self r → MatchResult result (λ q. q ≡ r) (λ e. e ≡ AutError.Memory) }
+        ensures fault { (e : _) → RefusesAut self e → ¬ (e ≡ AutError.Memory) → MatchResult result (λ _. ⊥) (IsOrMemory e) }
     {
         read_content(self.alloc, &self.content)
     }
@@ -64,7 +66,8 @@ impl AutReader {
 
 fn read_content(alloc: Global, content: &[u8]) -> Result<RawLts, AutError>
     requires { length (lines_of content.now) < 2 ^ 32 - 1 }
-    ensures { MatchResult result (IsAut content.now) (RefusesAut content.now) }
+    ensures read { MatchResult result (IsAut content.now) (RefusesAut content.now) }
+    ensures sound { IfOk result IsRaw }
 {
     let Some((head, number, rest)) = find_head(content) else {
         return Err(AutError::Header);
@@ -94,8 +97,8 @@ fn find_head(bytes: &[u8]) -> Option<(&[u8], u32, &[u8])>
 /// The moves of the lines that follow line `number`.
 fn read_moves(alloc: Global, bytes: &[u8], number: u32, states: u64) -> Result<RawParts, AutError>
     requires lines { number + length (lines_of bytes.now) < 2 ^ 32 - 1 }
-    requires states { states ≤ 65536 }
-    ensures { MatchResult result (λ parts. AreMoves states (lines_of bytes.now) (named_moves parts) × (length parts.moves ≤ 1048576)) (IsFaultAmong states number (lines_of bytes.now)) }
+    requires states { states ≤ MOST_STATES }
+    ensures { MatchResult result (λ parts. AreMoves states (lines_of bytes.now) (named_moves parts) × (length parts.moves ≤ MOST_MOVES)) (IsFaultAmong states number (lines_of bytes.now)) }
 {
     let mut parts = RawParts::new(alloc);
     let mut rest = bytes;
@@ -110,12 +113,13 @@ fn read_moves(alloc: Global, bytes: &[u8], number: u32, states: u64) -> Result<R
 
 /// The system of the header and the moves, if they are as many as it says.
 fn finish(header: Header, parts: RawParts) -> Result<RawLts, AutError>
-    requires few { length parts.moves ≤ 1048576 }
-    requires transitions { header.transitions ≤ 1048576 }
-    requires states { header.states ≤ 65536 }
+    requires few { length parts.moves ≤ MOST_MOVES }
+    requires transitions { header.transitions ≤ MOST_MOVES }
+    requires states { header.states ≤ MOST_STATES }
     requires start { header.start < header.states }
     requires within { All (IsWithin header.states) (named_moves parts) }
-    ensures { MatchResult result (λ r. (r ≡ record { states = header.states; start = header.start; labels = parts.labels; moves = parts.moves }) × (length parts.moves ≡ header.transitions)) (λ e. (e ≡ AutError.Memory) ⊎ ((e ≡ AutError.Count header.transitions (length parts.moves)) × (header.transitions ≡ length parts.moves → ⊥))) }
+    ensures built { MatchResult result (IsFinished header parts) (λ e. (e ≡ AutError.Memory) ⊎ IsMiscount header parts e) }
+    ensures sound { IfOk result IsRaw }
 {
     let found = parts.count() as u32;
     let declared = header.transitions as u32;

@@ -4,16 +4,14 @@ use Rattle.std.specs.List.Sorted.{IsStrictlyIncreasing}
 use Rattle.std.proofs.lemmas.List.{append-nil, append_assoc, get_or_append_left, length-append, get_or_default}
 use Rattle.std.proofs.lemmas.List.Elements.{All-contains, All-push, All-append, All-nil, All-weaker, Contains-push, Contains-append_left, Contains-get_or}
 use Rattle.std.proofs.lemmas.Bool.{cases_lt}
-use Rattle.lts_base.specs.declared.action.Act.{Act}
 use Rattle.lts_base.specs.declared.action.Act.TheVariants.{Tau, Label}
-use Rattle.lts_base.specs.declared.action.Move.{Move}
 use Rattle.lts_base.specs.declared.item.Item.{Item}
 use Rattle.lts_base.specs.declared.item.Item.TheVariants.{Input, Output, Delta}
-use Rattle.lts_base.specs.System.{System, HasMove, IsQuiet, AreMovesOf, IsItemOf}
+use Rattle.lts_base.specs.System.{System, HasMove, IsQuiet, IsItemOf}
 use Rattle.lts_base.specs.Path.{Leads, Ends, IsSeen}
 use Rattle.lts_base.specs.After.{IsSetAfter}
 use Rattle.lts_base.specs.Next.{IsNext, Reaches}
-use Rattle.lts_base.proofs.Leads.{Leads-here, Leads-append, Leads-tau, Leads-closed, IsSeen-input, IsSeen-output, IsSeen-delta, IsSeen-from_input, IsSeen-from_output, IsSeen-from_quiet, HasMove-from_parts}
+use Rattle.lts_base.proofs.Leads.{Leads-here, Leads-append, Leads-tau, Leads-closed, IsSeen-input, IsSeen-output, IsSeen-delta, IsSeen-from_input, IsSeen-from_output, IsSeen-from_quiet}
 use Rattle.lts_base.proofs.ListLaws.{Contains-none, none_contained}
 use Rattle.cert_check.specs.Finds.{IsAdded, Adds, IsReached, AreReached}
 
@@ -22,60 +20,16 @@ pub Contains-added : (old : List ℕ) (q : ℕ) (new : List ℕ) → IsAdded old
 Contains-added old q new (inl (same, inside)) = rw same inside
 Contains-added old q new (inr grown) = rw grown (Contains-push old q)
 
--- of the moves ms the first i have been looked at, and the targets of those that carry the action were added
-pub record IsSpreading (P : ℕ → Type 0) (act : Act) (old new : List ℕ) (ms : List Move) (i : ℕ) : Type 0 where
-  pub kept : (more : List ℕ) × (new ≡ old ++ more) × All P more
-  pub looked : (k : ℕ) (d : Move) → k < i → (get_or ms k d).act ≡ act → Contains new (get_or ms k d).to
-
 -- added with one state that has P
-Adds-kept : (P : ℕ → Type 0) (old now new : List ℕ) (q : ℕ) → P q → IsAdded now q new → (more : List ℕ) × (now ≡ old ++ more) × All P more → (more : List ℕ) × (new ≡ old ++ more) × All P more
+pub Adds-kept : (P : ℕ → Type 0) (old now new : List ℕ) (q : ℕ) → P q → IsAdded now q new → (more : List ℕ) × (now ≡ old ++ more) × All P more → (more : List ℕ) × (new ≡ old ++ more) × All P more
 Adds-kept P old now new q has (inl (same, inside)) (more, is, all) = (more, same ∙ is, all)
 Adds-kept P old now new q has (inr grown) (more, is, all) =
     (more ++ q ∷ [], grown ∙ ap {A = List ℕ} {B = List ℕ} (λ z. z ++ q ∷ []) is ∙ append_assoc old more (q ∷ []), All-push P more q all has)
 
 -- what was found stays found
-Contains-more : (now : List ℕ) (q : ℕ) (new : List ℕ) → IsAdded now q new → (r : ℕ) → Contains now r → Contains new r
+pub Contains-more : (now : List ℕ) (q : ℕ) (new : List ℕ) → IsAdded now q new → (r : ℕ) → Contains now r → Contains new r
 Contains-more now q new (inl (same, inside)) r has = rw same has
 Contains-more now q new (inr grown) r has = rw grown (Contains-append_left now (q ∷ []) r has)
-
--- the next move carries another action
-pub IsSpreading-skip : (P : ℕ → Type 0) (act : Act) (old new : List ℕ) (ms : List Move) (i : ℕ) (e : Move) → i < length ms → ((get_or ms i e).act ≡ act → ⊥) → IsSpreading P act old new ms i → IsSpreading P act old new ms (i + 1)
-IsSpreading-skip P act old new ms i e inside other is = record {
-  kept = is.kept;
-  looked = λ k d below carries. elim (cases_lt k i) [
-    | inl earlier ↦ is.looked k d earlier carries
-    | inr late ↦
-        let same : k ≡ i = omega (arith, late, below) in
-        absurd (other (rw (get_or_default ms i e d inside) (rw same at carries)))
-  ];
-}
-
--- the next move carries the action, and its target was added
-pub IsSpreading-add : (P : ℕ → Type 0) (act : Act) (old now new : List ℕ) (ms : List Move) (i : ℕ) (e : Move) → i < length ms → P (get_or ms i e).to → IsAdded now (get_or ms i e).to new → IsSpreading P act old now ms i → IsSpreading P act old new ms (i + 1)
-IsSpreading-add P act old now new ms i e inside has added is = record {
-  kept = Adds-kept P old now new (get_or ms i e).to has added is.kept;
-  looked = λ k d below carries. elim (cases_lt k i) [
-    | inl earlier ↦ Contains-more now (get_or ms i e).to new added (get_or ms k d).to (is.looked k d earlier carries)
-    | inr late ↦
-        let same : k ≡ i = omega (arith, late, below) in
-        rw (same, get_or_default ms i d e inside) (Contains-added now (get_or ms i e).to new added)
-  ];
-}
-
--- the target of a move of the state p that carries the action
-pub HasMove-at : (s : System) (p : ℕ) (act : Act) (ms : List Move) (i : ℕ) (e : Move) → AreMovesOf s p ms → i < length ms → (get_or ms i e).act ≡ act → HasMove s p act (get_or ms i e).to
-HasMove-at s p act ms i e these inside carries =
-    let each = these.each i e inside in
-    HasMove-from_parts s (get_or ms i e) p act each.0 carries each.1
-
--- all moves of the state have been looked at
-pub IsSpreading-all : (s : System) (p : ℕ) (act : Act) (old new : List ℕ) (ms : List Move) (n : ℕ) → AreMovesOf s p ms → length ms ≤ n → IsSpreading (HasMove s p act) act old new ms n → Adds (HasMove s p act) old new
-IsSpreading-all s p act old new ms n these over is = record {
-  kept = is.kept;
-  all = λ q has.
-      none_contained (λ (m : Move). m.act ≡ act → Contains new m.to) ms n over is.looked
-      (record { from = p; act = act; to = q }) (these.all (record { from = p; act = act; to = q }) refl has) refl;
-}
 
 -- of the members of ps the first i have been looked at, and what R leads to from them was found
 pub record IsReaching (R : ℕ → ℕ → Type 0) (ps found : List ℕ) (i : ℕ) : Type 0 where

@@ -1,123 +1,153 @@
 -- Laws on the keys of a relation's pairs.
-use Rattle.std.proofs.Common.{◌≡◌, ℕ, ◌+◌, ◌*◌, ◌^◌, ◌<◌, ◌≤◌, ◌%◌, List, [], ◌∷◌, ◌++◌, length, get_or, inl, inr, Contains, true, false, refl, ap, ◌∙◌, arith, nat_lt, nat_cmp}
-use Rattle.std.specs.List.Sorted.{IsNonDecreasing, IsPartitionPoint, IsPermutation, IsSorted}
-use Rattle.std.proofs.lemmas.List.{get_or_default}
-use Rattle.std.proofs.lemmas.List.Elements.{Contains-push, Contains-push_cases, Contains-append_left, Contains-get_or}
-use Rattle.std.proofs.lemmas.List.Sorted.{IsNonDecreasingBy-from_sort, Contains-permutation, IsPermutation-sym}
-use Rattle.std.proofs.lemmas.Bool.{cases_lt, ltb-true}
-use Rattle.std.proofs.lemmas.Bool.Decides.{nat_tests}
+use Rattle.std.proofs.Common.{◌≡◌, ◌↔◌, ℕ, ◌+◌, ◌<◌, ◌≤◌, List, [], ◌∷◌, ◌++◌, length, get_or, All, inl, inr, Contains, Bool, true, false, not, refl, sym, ap, ◌∙◌, arith}
+use Rattle.std.specs.Prelude.{IsTrue}
+use Rattle.std.proofs.lemmas.List.{get_or_push, get_or_append_left, length_push}
+use Rattle.std.proofs.lemmas.Bool.{cases_lt, false≢true}
 use Rattle.lts_base.specs.declared.relation.Relation.{Relation}
+use Rattle.lts_base.specs.Alphabet.{AreRising, text_at}
 use Rattle.lts_base.specs.Related.{rows_of}
-use Rattle.cert_check.specs.Index.{Names, hash_of, key_of, pair_at, key_at, IsKey, IsIndex}
-use Rattle.cert_check.proofs.PairLaws.{contained_named}
+use Rattle.lts_base.proofs.LabelLaws.{less_apart}
+use Rattle.lts_base.proofs.NextLaws.{contains_number}
+use Rattle.cert_check.specs.Numbers.{Enters}
+use Rattle.cert_check.specs.Checks.{IsPairOf}
+use Rattle.cert_check.specs.Index.{Names, pair_at, IsPlace, key_of, IsKey, AreKeys, LacksKey, AreSorted, IsIndex, IsRepeat, AreRepeats}
+use Rattle.cert_check.proofs.PairLaws.{contained_named, named_contained}
 
--- what the tests say of a place, said of the numbers
-pub point_from_tests : (keys : List ℕ) (low i : ℕ) → IsPartitionPoint (λ (key : ℕ). nat_lt key low ≡ true) (λ (key : ℕ). nat_lt key low ≡ false) keys i →
-    IsPartitionPoint (λ (key : ℕ). key < low) (λ (key : ℕ). low ≤ key) keys i
-point_from_tests keys low i h =
-    (λ k d from to. ltb-true (get_or keys k d) low (h.0 k d from to), λ k d from to. let no = h.1 k d from to in grind (arith, nat_tests))
+-- a list has one place
+pub place_once : (lists : List (List ℕ)) (list : List ℕ) (j k : ℕ) → AreRising lists → IsPlace lists list j → IsPlace lists list k → j ≡ k
+place_once lists list j k rising (below_j, at_j) (below_k, at_k) = elim (cases_lt j k) [
+  | inl less ↦ absurd (less_apart (text_at lists j) (text_at lists k) (rising j k less below_k) (at_j ∙ sym at_k))
+  | inr least ↦ elim (cases_lt k j) [
+    | inl more ↦ absurd (less_apart (text_at lists k) (text_at lists j) (rising k j more below_j) (at_k ∙ sym at_j))
+    | inr most ↦ omega (arith, least, most)
+  ]
+]
 
--- the keys of the first n pairs
-pub record AreKeys (relation : Relation) (keys : List ℕ) (n : ℕ) : Type 0 where
-  pub each : (key : ℕ) → Contains keys key → IsKey relation key
-  pub all : (k : ℕ) → k < n → Contains keys (key_at relation k)
+same_key : (a b c d : ℕ) → b < 4294967296 → d < 4294967296 → key_of a b ≡ key_of c d → (a ≡ c) × (b ≡ d)
+same_key a b c d small below e = (omega (arith, small, below, e), omega (arith, small, below, e))
 
--- no pair has a key yet
-pub keys-none : (relation : Relation) → AreKeys relation [] 0
-keys-none relation = record {
+-- a key tells its lists
+pub key_tells : (lefts rights : List (List ℕ)) (l r p q : List ℕ) (key : ℕ) → IsKey lefts rights l r key → IsKey lefts rights p q key → (l ≡ p) × (r ≡ q)
+key_tells lefts rights l r p q key one two =
+    let (first, second) = same_key one.first one.second two.first two.second one.small two.small (sym one.key_is ∙ two.key_is) in
+    (sym (one.left_is.1) ∙ ap (text_at lefts) first ∙ two.left_is.1, sym (one.right_is.1) ∙ ap (text_at rights) second ∙ two.right_is.1)
+
+-- lists have one key
+pub key_once : (lefts rights : List (List ℕ)) (l r : List ℕ) (j k : ℕ) → AreSorted lefts → AreSorted rights → IsKey lefts rights l r j → IsKey lefts rights l r k → j ≡ k
+key_once lefts rights l r j k sorted other one two =
+    let first = place_once lefts l one.first two.first sorted.rising one.left_is two.left_is in
+    let second = place_once rights r one.second two.second other.rising one.right_is two.right_is in
+    one.key_is ∙ ap {A = ℕ} {B = ℕ} (λ a. key_of a one.second) first ∙ ap {A = ℕ} {B = ℕ} (λ b. key_of two.first b) second ∙ sym two.key_is
+
+pub AreKeys-none : (relation : Relation) (lefts rights : List (List ℕ)) → AreKeys relation lefts rights 0 []
+AreKeys-none relation lefts rights = record {
   each = λ key (k, below, at). absurd (omega (arith, below));
-  all = λ k less. absurd (omega (arith, less));
+  all = λ k left right less. absurd (omega (arith, less));
 }
 
--- the key of the next pair
-pub keys-push : (relation : Relation) (keys : List ℕ) (n : ℕ) (d : ℕ × ℕ) (left right : List ℕ) (hash place : ℕ) → n < length relation.pairs →
-    left ≡ get_or relation.left (get_or relation.pairs n d).0 [] → right ≡ get_or relation.right (get_or relation.pairs n d).1 [] → hash ≡ hash_of left right → place ≡ n →
-    AreKeys relation keys n → AreKeys relation (keys ++ (hash * 4294967296 + place) ∷ []) (n + 1)
-keys-push relation keys n d left right hash place below one other is_hash is_place is = record {
-  each = λ key there. elim (Contains-push_cases keys (hash * 4294967296 + place) key there) [
-    | inl before ↦ is.each key before
-    | inr last ↦ (hash, n, below, rw (← last, is_place) refl)
+-- the lists that a pair names are told by it
+names_once : (relation : Relation) (pair : ℕ × ℕ) (l r p q : List ℕ) → Names relation pair l r → Names relation pair p q → (l ≡ p) × (r ≡ q)
+names_once relation pair l r p q one two = (sym one.first ∙ two.first, sym one.second ∙ two.second)
+
+key_for : (lefts rights : List (List ℕ)) (l r p q : List ℕ) (key : ℕ) → l ≡ p → r ≡ q → IsKey lefts rights l r key → IsKey lefts rights p q key
+key_for lefts rights l r p q key e f is = rw (← e, ← f) is
+
+-- the key of one more pair enters
+pub AreKeys-more : (relation : Relation) (lefts rights : List (List ℕ)) (n key : ℕ) (old new left right : List ℕ) → Names relation (pair_at relation n) left right → IsKey lefts rights left right key → Enters old key new →
+    AreKeys relation lefts rights n old → AreKeys relation lefts rights (n + 1) new
+AreKeys-more relation lefts rights n key old new left right names is enters keys = record {
+  each = λ k has. elim ((enters k).0 has) [
+    | inl before ↦ let (j, less, of_j) = keys.each k before in (j, omega (arith, less), of_j)
+    | inr same ↦ (n, omega arith, λ p q named. let (e, f) = names_once relation (pair_at relation n) left right p q names named in rw same (key_for lefts rights left right p q key e f is))
   ];
-  all = λ k less. elim (cases_lt k n) [
-    | inl before ↦ Contains-append_left keys ((hash * 4294967296 + place) ∷ []) (key_at relation k) (is.all k before)
+  all = λ k p q less named. elim (cases_lt k n) [
+    | inl before ↦ let (other, is_other, has) = keys.all k p q before named in (other, is_other, (enters other).1 (inl has))
     | inr after ↦
         let same : k ≡ n = omega (arith, less, after) in
-        rw (same, here) (Contains-push keys (hash * 4294967296 + place))
+        let (e, f) = names_once relation (pair_at relation n) left right p q names (rw same at named) in
+        (key, key_for lefts rights left right p q key e f is, (enters key).1 (inr refl))
+  ];
+}
+
+pub AreRepeats-none : (relation : Relation) → AreRepeats relation 0 []
+AreRepeats-none relation = record { long = refl; each = λ k below. absurd (omega (arith, below)) }
+
+-- a key that isn't new is that of an earlier pair with the same lists
+pub AreRepeats-more : (relation : Relation) (lefts rights : List (List ℕ)) (n key : ℕ) (old left right : List ℕ) (fresh : Bool) (repeated : List Bool) → Names relation (pair_at relation n) left right → IsKey lefts rights left right key →
+    IsTrue fresh ↔ (Contains old key → ⊥) → AreKeys relation lefts rights n old → AreRepeats relation n repeated → AreRepeats relation (n + 1) (repeated ++ not fresh ∷ [])
+AreRepeats-more relation lefts rights n key old left right fresh repeated names is new keys are = record {
+  long = length_push repeated (not fresh) ∙ ap {A = ℕ} {B = ℕ} (λ k. k + 1) are.long;
+  each = λ k below t. elim (cases_lt k n) [
+    | inl before ↦ are.each k before (sym (get_or_append_left repeated (not fresh ∷ []) false k (omega (arith, before, are.long))) ∙ t)
+    | inr after ↦
+        let same : k ≡ n = omega (arith, below, after) in
+        let end : length repeated ≡ n = are.long in
+        let told : not fresh ≡ true = sym (get_or_push repeated (not fresh) false n end) ∙ (rw same at t) in
+        rw same (repeat told)
   ];
 }
   where
-    same_pair : get_or relation.pairs n d ≡ pair_at relation n
-    same_pair = get_or_default relation.pairs n d (0, 0) below
+    repeat : not fresh ≡ true → IsRepeat relation n
+    repeat told =
+        let (j, less, of_j) = keys.each key (there fresh told new) in
+        (j, less, λ p q named. again j of_j p q named)
+      where
+        there : (b : Bool) → not b ≡ true → IsTrue b ↔ (Contains old key → ⊥) → Contains old key
+        there true e new = absurd (false≢true e)
+        there false e new = elim (contains_number old key) [
+          | inl has ↦ has
+          | inr none ↦ absurd (false≢true (new.1 none))
+        ]
 
-    here : key_at relation n ≡ hash * 4294967296 + place
-    here = rw (is_hash, is_place, one, other, same_pair) refl
+        again : (j : ℕ) → ((l r : List ℕ) → Names relation (pair_at relation j) l r → IsKey lefts rights l r key) → (p q : List ℕ) → Names relation (pair_at relation n) p q → Names relation (pair_at relation j) p q
+        again j of_j p q named =
+            let here : Names relation (pair_at relation j) (get_or relation.left (pair_at relation j).0 []) (get_or relation.right (pair_at relation j).1 []) = record { first = refl; second = refl } in
+            let (e, f) = key_tells lefts rights (get_or relation.left (pair_at relation j).0 []) (get_or relation.right (pair_at relation j).1 []) left right key (of_j (get_or relation.left (pair_at relation j).0 []) (get_or relation.right (pair_at relation j).1 []) here) is in
+            let (g, h) = names_once relation (pair_at relation n) left right p q names named in
+            record { first = e ∙ g; second = f ∙ h }
 
--- sorted, the keys of all pairs are the index
-pub index_from_sorted : (relation : Relation) (keys sorted : List ℕ) (n : ℕ) → length relation.pairs ≤ n → AreKeys relation keys n → IsPermutation keys sorted → IsSorted nat_cmp sorted → IsIndex relation sorted
-index_from_sorted relation keys sorted n over is moved up = record {
-  rising = IsNonDecreasingBy-from_sort (λ x. x) sorted up;
-  each = λ j below. is.each (get_or sorted j 0) (Contains-permutation sorted keys (get_or sorted j 0) (IsPermutation-sym keys sorted moved) (Contains-get_or sorted j 0 below));
-  all = λ k below. Contains-permutation keys sorted (key_at relation k) moved (is.all k (omega (arith, below, over)));
-}
+-- a row that is found by its key, and one that isn't
+pub found_key : (relation : Relation) (lefts rights : List (List ℕ)) (keys left right : List ℕ) (key : ℕ) (b : Bool) → IsIndex relation lefts rights keys → IsKey lefts rights left right key → IsTrue b ↔ Contains keys key →
+    IsTrue b ↔ Contains (rows_of relation) (record { left = left; right = right })
+found_key relation lefts rights keys left right key b index is told = (
+  λ t.
+      let (k, below, of_k) = index.pairs.each key (told.0 t) in
+      let here : Names relation (pair_at relation k) (get_or relation.left (pair_at relation k).0 []) (get_or relation.right (pair_at relation k).1 []) = record { first = refl; second = refl } in
+      let (e, f) = key_tells lefts rights _ _ left right key (of_k _ _ here) is in
+      named_contained relation k (0, 0) left right below (record { first = e; second = f }),
+  λ has.
+      let (k, below, named) = contained_named relation left right has in
+      let (other, is_other, inside) = index.pairs.all k left right below (named (0, 0)) in
+      told.1 (rw (key_once lefts rights left right key other index.left index.right is is_other) inside),
+)
 
--- no key before this place is that of a pair with these lists, whose hash begins the key `low`
-pub record IsPast (relation : Relation) (keys left right : List ℕ) (low at : ℕ) : Type 0 where
-  pub past : (j k : ℕ) → j < at → k < length relation.pairs → Names relation (pair_at relation k) left right → get_or keys j 0 ≡ low + k → ⊥
-
--- before the first key that is not below `low` there is no key of a pair with these lists
-pub past-none : (relation : Relation) (keys left right : List ℕ) (low at : ℕ) → IsPartitionPoint (λ (key : ℕ). key < low) (λ (key : ℕ). low ≤ key) keys at → IsPast relation keys left right low at
-past-none relation keys left right low at point = record {
-  past = λ j k less below names same. let under : get_or keys j 0 < low = point.0 j 0 (omega arith) less in omega (arith, under, same);
-}
-
--- the place that a key ends with
-pub key_place : (hash k : ℕ) → k < 4294967296 → key_of hash k % 4294967296 ≡ k
-key_place hash k small = omega (arith, small)
-
--- the place that a key of the index ends with is that of a pair
-pub place_within : (relation : Relation) (keys : List ℕ) (j key place : ℕ) → length relation.pairs + 1 < 2 ^ 32 → IsIndex relation keys → j < length keys → key ≡ get_or keys j 0 → place ≡ key % 4294967296 → place < length relation.pairs
-place_within relation keys j key place few index below is_key is_place =
-    let (hash, k, within, e) = index.each j below in
-    let there : key ≡ key_of hash k = is_key ∙ e in
-    let last : key_of hash k % 4294967296 ≡ k = key_place hash k (omega (arith, within, few)) in
-    let here : place ≡ k = is_place ∙ ap {A = ℕ} {B = ℕ} (λ z. z % 4294967296) there ∙ last in
-    omega (arith, here, within)
-
--- the next key isn't that of a pair with these lists
-pub past-next : (relation : Relation) (keys left right : List ℕ) (hash low at key place : ℕ) → length relation.pairs + 1 < 2 ^ 32 → low ≡ hash * 4294967296 → key ≡ get_or keys at 0 → place ≡ key % 4294967296 →
-    (Names relation (pair_at relation place) left right → ⊥) → IsPast relation keys left right low at → IsPast relation keys left right low (at + 1)
-past-next relation keys left right hash low at key place few is_low is_key is_place other is = record {
-  past = λ j k less below names same. elim (cases_lt j at) [
-    | inl before ↦ is.past j k before below names same
-    | inr after ↦
-        let here : j ≡ at = omega (arith, less, after) in
-        let there : key ≡ key_of hash k = rw (is_key, ← here, same, is_low) refl in
-        let last : key_of hash k % 4294967296 ≡ k = key_place hash k (omega (arith, below, few)) in
-        let e : place ≡ k = is_place ∙ ap {A = ℕ} {B = ℕ} (λ z. z % 4294967296) there ∙ last in
-        other (rw e names)
-  ];
-}
-
--- where the keys from this place on are too great, no pair has these lists
-pub past-over : (relation : Relation) (keys left right : List ℕ) (hash low at : ℕ) → length relation.pairs + 1 < 2 ^ 32 → low ≡ hash * 4294967296 → hash ≡ hash_of left right → IsIndex relation keys →
-    ((j : ℕ) → at ≤ j → j < length keys → low + 4294967296 ≤ get_or keys j 0) → IsPast relation keys left right low at → Contains (rows_of relation) (record { left = left; right = right }) → ⊥
-past-over relation keys left right hash low at few is_low is_hash index great is has =
+pub no_key : (relation : Relation) (lefts rights : List (List ℕ)) (keys left right : List ℕ) → IsIndex relation lefts rights keys → LacksKey lefts rights left right → Contains (rows_of relation) (record { left = left; right = right }) → ⊥
+no_key relation lefts rights keys left right index lacks has =
     let (k, below, named) = contained_named relation left right has in
-    let names : Names relation (pair_at relation k) left right = named (0, 0) in
-    let (j, within, e) = index.all k below in
-    let there : key_at relation k ≡ low + k = rw (names.first, names.second, is_low, is_hash) refl in
-    let here : get_or keys j 0 ≡ low + k = get_or_default keys j 0 (key_at relation k) within ∙ e ∙ there in
-    elim (cases_lt j at) [
-      | inl before ↦ is.past j k before below names here
-      | inr after ↦ let above = great j after within in omega (arith, above, here, below, few)
-    ]
+    let within = index.named k (0, 0) below in
+    let names = named (0, 0) in
+    lacks (rw (← names.first) (index.all_left (pair_at relation k).0 [] within.0), rw (← names.second) (index.all_right (pair_at relation k).1 [] within.1))
 
--- a key too great at this place: so are all after it
-pub great_from : (keys : List ℕ) (low at key : ℕ) → IsNonDecreasing keys → at < length keys → key ≡ get_or keys at 0 → low + 4294967296 ≤ key → (j : ℕ) → at ≤ j → j < length keys → low + 4294967296 ≤ get_or keys j 0
-great_from keys low at key rising inside is_key great j after within =
-    let up : get_or keys at 0 ≤ get_or keys j 0 = rising at j 0 after within in
-    omega (arith, up, is_key, great)
+-- the lists of a pair are among those of their sides
+pub listed_left : (relation : Relation) (lefts : List (List ℕ)) (k : ℕ) (list : List ℕ) → k < length relation.pairs → All (IsPairOf (length relation.left) (length relation.right)) relation.pairs → All (Contains lefts) relation.left →
+    list ≡ get_or relation.left (get_or relation.pairs k (0, 0)).0 [] → Contains lefts list
+listed_left relation lefts k list below pairs all is = rw is (all (get_or relation.pairs k (0, 0)).0 [] (pairs k (0, 0) below).0)
 
--- there is no place from the end on
-pub none_from : (keys : List ℕ) (low at : ℕ) → length keys ≤ at → (j : ℕ) → at ≤ j → j < length keys → low + 4294967296 ≤ get_or keys j 0
-none_from keys low at over j after within = absurd (omega (arith, over, after, within))
+pub listed_right : (relation : Relation) (rights : List (List ℕ)) (k : ℕ) (list : List ℕ) → k < length relation.pairs → All (IsPairOf (length relation.left) (length relation.right)) relation.pairs → All (Contains rights) relation.right →
+    list ≡ get_or relation.right (get_or relation.pairs k (0, 0)).1 [] → Contains rights list
+listed_right relation rights k list below pairs all is = rw is (all (get_or relation.pairs k (0, 0)).1 [] (pairs k (0, 0) below).1)
+
+-- all pairs have been entered
+pub IsIndex-all : (relation : Relation) (lefts rights : List (List ℕ)) (n : ℕ) (keys : List ℕ) → length relation.pairs ≤ n → n ≤ length relation.pairs → AreSorted lefts → AreSorted rights → All (Contains lefts) relation.left → All (Contains rights) relation.right →
+    All (IsPairOf (length relation.left) (length relation.right)) relation.pairs → AreKeys relation lefts rights n keys → IsIndex relation lefts rights keys
+IsIndex-all relation lefts rights n keys over within left right all_left all_right named are = record {
+  left = left;
+  right = right;
+  all_left = all_left;
+  all_right = all_right;
+  named = named;
+  pairs = let same : n ≡ length relation.pairs = omega (arith, over, within) in rw same at are;
+}
+
+pub AreRepeats-all : (relation : Relation) (n : ℕ) (repeated : List Bool) → length relation.pairs ≤ n → n ≤ length relation.pairs → AreRepeats relation n repeated → AreRepeats relation (length relation.pairs) repeated
+AreRepeats-all relation n repeated over within are = let same : n ≡ length relation.pairs = omega (arith, over, within) in rw same at are

@@ -1,11 +1,14 @@
 pub mod MarkLaws
 pub mod FindLaws
+pub mod RunLaws
 pub mod OfferLaws
+pub mod QuietLaws
+pub mod PresentLaws
 pub mod ItemLaws
 pub mod PairLaws
 pub mod TraceLaws
 pub mod RelationLaws
+pub mod NumberLaws
 pub mod IndexLaws
 pub mod ValidLaws
 pub mod AnswerLaws
-pub mod CoinLabels

@@ -1,16 +1,9 @@
 -- Laws on what lists of states show and allow.
-use Rattle.std.proofs.Common.{◌≡◌, ℕ, ◌<◌, ◌≤◌, List, length, get_or, Contains, refl, Bool, IsTrue, ◌↔◌}
-use Rattle.lts_base.specs.declared.action.Act.{Act}
-use Rattle.lts_base.specs.declared.action.Move.{Move}
+use Rattle.std.proofs.Common.{ℕ, ◌<◌, ◌≤◌, List, length, get_or, Contains, Bool, IsTrue, ◌↔◌}
 use Rattle.lts_base.specs.declared.item.Item.TheVariants.{Output}
-use Rattle.lts_base.specs.System.{System, HasMove, AreMovesOf, IsItemOf, Takes}
+use Rattle.lts_base.specs.System.{System, IsItemOf, Takes}
 use Rattle.lts_base.specs.After.{Gives}
 use Rattle.lts_base.proofs.ListLaws.{none_contained}
-
--- none of the state's moves carries the action, so no move with it leaves the state
-pub none_has : (s : System) (p : ℕ) (act : Act) (ms : List Move) (n : ℕ) → AreMovesOf s p ms → length ms ≤ n → ((k : ℕ) (d : Move) → k < n → (get_or ms k d).act ≡ act → ⊥) → (q : ℕ) × HasMove s p act q → ⊥
-none_has s p act ms n these over none (q, has) =
-    none_contained (λ (m : Move). m.act ≡ act → ⊥) ms n over none (record { from = p; act = act; to = q }) (these.all (record { from = p; act = act; to = q }) refl has) refl
 
 -- P holds at none of the places, so no member has P
 pub none_of : (P : ℕ → Type 0) (xs : List ℕ) (n : ℕ) → length xs ≤ n → ((k d : ℕ) → k < n → P (get_or xs k d) → ⊥) → (q : ℕ) × Contains xs q × P q → ⊥

@@ -1,6 +1,8 @@
 -- Laws on the check of a relation.
-use Rattle.std.proofs.Common.{◌≡◌, ℕ, ◌+◌, ◌<◌, ◌≤◌, List, [], ◌∷◌, length, get_or, eqb, inl, inr, All, Contains, Bool, true, false, IsTrue, ◌↔◌, refl, sym, ◌∙◌, arith}
+use Rattle.std.proofs.Common.{◌≡◌, ℕ, ◌+◌, ◌<◌, ◌≤◌, List, [], ◌∷◌, length, get_or, eqb, inl, inr, All, Contains, Bool, true, false, IsTrue, ◌↔◌, refl, sym, ap, subst, ◌∙◌, arith}
 use Rattle.std.proofs.lemmas.List.{get_or_default}
+use Rattle.cert_check.specs.Present.{ArePresent}
+use Rattle.cert_check.proofs.PresentLaws.{unshown_absent, closed_absent}
 use Rattle.std.proofs.lemmas.Bool.{cases_lt, false≢true, eqb-true}
 use Rattle.lts_base.specs.declared.item.Item.{Item}
 use Rattle.lts_base.specs.declared.item.Mode.{Mode}
@@ -15,7 +17,7 @@ use Rattle.lts_base.proofs.SetLaws.{Shows-item, IsNext-unique, IsSetAfter-unique
 use Rattle.cert_check.specs.declared.checked.Checked.{Checked}
 use Rattle.cert_check.specs.declared.checked.Checked.TheVariants.{Accepted, Start, Outputs, NotClosed, NotAllowed, NotShown, Allowed}
 use Rattle.cert_check.specs.Checks.{IsListOf, LacksOpening, HasOpening, IsValidTo, ShowsMore, IsOpen, IsFirstOpen, IsFirstShowingMore, IsFirstNotClosed, IsCheckedRelation}
-use Rattle.cert_check.specs.Index.{Names}
+use Rattle.cert_check.specs.Index.{Names, pair_at, IsRepeat}
 use Rattle.cert_check.specs.Progress.{IsClosedFor, TellsClosed}
 use Rattle.cert_check.proofs.ItemLaws.{same_place, place_within}
 use Rattle.cert_check.proofs.PairLaws.{row_named, rows_length, row_same}
@@ -157,6 +159,41 @@ valid_next mode i s relation k d left right below names fine closed is =
       ];
     }
 
+-- a pair that an earlier one repeats
+pub valid_repeat : (mode : Mode) (i s : System) (relation : Relation) (k : ℕ) → k < length relation.pairs → IsRepeat relation k → IsValidTo mode i s (rows_of relation) k → IsValidTo mode i s (rows_of relation) (k + 1)
+valid_repeat mode i s relation k below (j, less, same) is = record {
+  opening = is.opening;
+  fine = λ m low. elim (cases_lt m k) [
+    | inl before ↦ is.fine m before
+    | inr after ↦ subst (IsFine i s) (same_row ∙ ap (row_at (rows_of relation)) (at m low after)) (is.fine j less)
+  ];
+  closed = λ m low. elim (cases_lt m k) [
+    | inl before ↦ is.closed m before
+    | inr after ↦ subst (IsClosedAt mode i s (rows_of relation)) (same_row ∙ ap (row_at (rows_of relation)) (at m low after)) (is.closed j less)
+  ];
+}
+  where
+    left : List ℕ
+    left = get_or relation.left (pair_at relation k).0 []
+
+    right : List ℕ
+    right = get_or relation.right (pair_at relation k).1 []
+
+    names : Names relation (pair_at relation k) left right
+    names = record { first = refl; second = refl }
+
+    row_k : row_at (rows_of relation) k ≡ record { left = left; right = right }
+    row_k = row_named relation k (0, 0) no_row left right below names
+
+    row_j : row_at (rows_of relation) j ≡ record { left = left; right = right }
+    row_j = row_named relation j (0, 0) no_row left right (omega (arith, less, below)) (same left right names)
+
+    same_row : row_at (rows_of relation) j ≡ row_at (rows_of relation) k
+    same_row = row_j ∙ sym row_k
+
+    at : (m : ℕ) → m < k + 1 → k ≤ m → k ≡ m
+    at m low after = omega (arith, low, after)
+
 -- the next pair's left list shows more than its right list
 pub more_at : (mode : Mode) (i s : System) (relation : Relation) (k : ℕ) (d : ℕ × ℕ) (left right : List ℕ) → k < length relation.pairs → Names relation (get_or relation.pairs k d) left right →
     ShowsMore i s (record { left = left; right = right }) → IsValidTo mode i s (rows_of relation) k → IsFirstShowingMore mode i s (rows_of relation) k
@@ -210,3 +247,29 @@ only_accepted mode i s relation (NotClosed number x) is valid =
 only_accepted mode i s relation (NotAllowed number) is valid = absurd is
 only_accepted mode i s relation NotShown is valid = absurd is
 only_accepted mode i s relation Allowed is valid = absurd is
+
+-- ---- items that the left list can't step with
+
+-- the item with this place, if there is one, is passed over
+pub fine_pass : (i s : System) (left right : List ℕ) (present : List Bool) (number : ℕ) → IsSystem i → ArePresent i left (length left) present → get_or present number false ≡ false → IsFineBelow i s left right number → IsFineBelow i s left right (number + 1)
+fine_pass i s left right present number system are none is = record {
+  fine = λ y less shows. elim (cases_lt (place (label_count i) y) number) [
+    | inl before ↦ is.fine y before shows
+    | inr after ↦
+        let same : place (label_count i) y ≡ number = omega (arith, less, after) in
+        absurd (unshown_absent i left present y (Shows-item i left y system shows) are (ap {A = ℕ} {B = Bool} (λ k. get_or present k false) same ∙ none) shows)
+  ];
+}
+
+pub closed_pass : (mode : Mode) (i s : System) (rows : List Row) (left right : List ℕ) (present : List Bool) (number : ℕ) → s.inputs ≡ i.inputs → s.outputs ≡ i.outputs → ArePresent i left (length left) present → get_or present number false ≡ false →
+    IsClosedBelow mode i s rows left right number → IsClosedBelow mode i s rows left right (number + 1)
+closed_pass mode i s rows left right present number inputs outputs are none is = record {
+  closed = λ y less other. elim (cases_lt (place (label_count s) y) number) [
+    | inl before ↦ is.closed y before other
+    | inr after ↦
+        let same : place (label_count s) y ≡ number = omega (arith, less, after) in
+        let counts : label_count i ≡ label_count s = omega (arith, inputs, outputs) in
+        let here : place (label_count i) y ≡ number = ap {A = ℕ} {B = ℕ} (λ n. place n y) counts ∙ same in
+        closed_absent mode i s rows left right present y are (ap {A = ℕ} {B = Bool} (λ k. get_or present k false) here ∙ none) other
+  ];
+}

@@ -1,4 +1,4 @@
--- What the answers of the two checks mean.
+-- Promise: what the answers of the two checks mean.
 use Rattle.std.specs.Prelude.{◌≡◌, ℕ, ◌+◌, ◌<◌, ◌≤◌, List, [], length, take, All, Contains}
 use Rattle.std.specs.List.Sorted.{IsStrictlyIncreasing}
 use Rattle.lts_base.specs.declared.item.Item.{Item}
@@ -33,7 +33,7 @@ pub record LacksOpening (i s : System) (rows : List Row) : Type 0 where
   pub right : List ℕ
   pub left_set : IsSetAfter i [] left
   pub right_set : IsSetAfter s [] right
-  pub absent : Contains rows (record { left = left; right = right }) → ⊥
+  pub absent : ¬ Contains rows (record { left = left; right = right })
 
 -- some pair holds the two opening sets, and the first k pairs are fine and closed
 pub record IsValidTo (mode : Mode) (i s : System) (rows : List Row) (k : ℕ) : Type 0 where
@@ -43,7 +43,7 @@ pub record IsValidTo (mode : Mode) (i s : System) (rows : List Row) (k : ℕ) : 
 
 -- the left list shows an item that the right one doesn't
 abbrev pub ShowsMore : System → System → Row → Type 0
-ShowsMore i s row = (x : Item) × Shows i row.left x × (Shows s row.right x → ⊥)
+ShowsMore i s row = (x : Item) × Shows i row.left x × ¬ Shows s row.right x
 
 -- the item, one of the alphabet, is allowed by the right list, and the two lists that it leads to are in no pair, though the
 -- left one isn't empty
@@ -54,13 +54,13 @@ pub record IsOpen (mode : Mode) (i s : System) (rows : List Row) (row : Row) (x 
   pub right : List ℕ
   pub left_next : IsNext i x row.left left
   pub right_next : IsNext s x row.right right
-  pub some : left ≡ [] → ⊥
-  pub absent : Contains rows (record { left = left; right = right }) → ⊥
+  pub some : ¬ (left ≡ [])
+  pub absent : ¬ Contains rows (record { left = left; right = right })
 
 -- the item is the first one at which the pair is open
 pub record IsFirstOpen (mode : Mode) (i s : System) (rows : List Row) (row : Row) (x : Item) : Type 0 where
   pub here : IsOpen mode i s rows row x
-  pub before : (y : Item) → place (label_count s) y < place (label_count s) x → IsOpen mode i s rows row y → ⊥
+  pub before : (y : Item) → place (label_count s) y < place (label_count s) x → ¬ IsOpen mode i s rows row y
 
 -- pair number k, from 0, is the first at fault: its left list shows more than its right list
 pub record IsFirstShowingMore (mode : Mode) (i s : System) (rows : List Row) (k : ℕ) : Type 0 where
@@ -89,13 +89,13 @@ IsCheckedRelation mode i s relation Allowed = ⊥
 pub record IsFirstNotAllowed (mode : Mode) (s : System) (trace : List Item) (k : ℕ) : Type 0 where
   pub within : k ≤ length trace
   pub before : (j : ℕ) → j < k → IsAllowed mode s (take j trace)
-  pub fault : IsAllowed mode s (take k trace) → ⊥
+  pub fault : ¬ IsAllowed mode s (take k trace)
 
 -- what the answer to a trace and an item says
 abbrev pub IsCheckedTrace : Mode → System → System → List Item → Item → Checked → Type 0
 IsCheckedTrace mode i s trace x Accepted = IsViolation mode i s trace x
 IsCheckedTrace mode i s trace x (NotAllowed number) = IsFirstNotAllowed mode s trace number
-IsCheckedTrace mode i s trace x NotShown = IsAllowed mode s trace × (ShowsAfter i trace x → ⊥)
+IsCheckedTrace mode i s trace x NotShown = IsAllowed mode s trace × ¬ ShowsAfter i trace x
 IsCheckedTrace mode i s trace x Allowed = IsAllowed mode s trace × ShowsAfter i trace x × ShowsAfter s trace x
 IsCheckedTrace mode i s trace x Start = ⊥
 IsCheckedTrace mode i s trace x (Outputs number) = ⊥

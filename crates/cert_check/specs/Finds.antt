@@ -1,4 +1,4 @@
--- What was found among the states of a system, and what a step of the finding adds.
+-- Private: what was found among the states of a system, and what a step of the finding adds.
 use Rattle.std.specs.Prelude.{◌≡◌, ℕ, ◌^◌, ◌<◌, List, [], ◌∷◌, ◌++◌, length, All, Contains, Bool, true, false, ◌⊎◌, ◌≢◌, slice_index_or as get_or}
 use Rattle.std.specs.List.{count_by, AllPairs}
 

@@ -1,5 +1,5 @@
--- Words between the pieces of the check of a relation.
-use Rattle.std.specs.Prelude.{◌≡◌, ℕ, List, length, All, Contains, Bool, true, false, ◌⊎◌, []}
+-- Private: words between the pieces of the check of a relation.
+use Rattle.std.specs.Prelude.{◌≡◌, ℕ, List, length, All, Contains, Bool, true, false, Option, MatchOption, ◌⊎◌, []}
 use Rattle.lts_base.specs.declared.item.Item.{Item}
 use Rattle.lts_base.specs.declared.item.Mode.{Mode}
 use Rattle.lts_base.specs.declared.relation.Relation.{Relation}
@@ -7,7 +7,8 @@ use Rattle.lts_base.specs.System.{System, IsItemOf}
 use Rattle.lts_base.specs.After.{Allows}
 use Rattle.lts_base.specs.Next.{IsNext}
 use Rattle.lts_base.specs.Reached.{Row, IsFine}
-use Rattle.cert_check.specs.Checks.{IsListOf, IsPairOf, IsOpen, ShowsMore}
+use Rattle.cert_check.specs.Checks.{IsListOf, IsPairOf, IsOpen, IsFirstOpen, ShowsMore}
+use Rattle.lts_base.specs.Related.{IsClosedAt}
 
 -- both systems have one alphabet, the pairs name lists of the relation, and its lists are lists of states
 pub record IsRelationOf (i s : System) (relation : Relation) : Type 0 where
@@ -26,6 +27,10 @@ IsClosedFor mode i s rows row x = IsItemOf s x → Allows mode s row.right x →
 abbrev pub TellsClosed : Mode → System → System → List Row → Row → Item → Bool → Type 0
 TellsClosed mode i s rows row x true = IsClosedFor mode i s rows row x
 TellsClosed mode i s rows row x false = IsOpen mode i s rows row x
+
+-- the first item at which the pair is open, or none where it is closed at all items
+abbrev pub TellsOpen : Mode → System → System → List Row → Row → Option Item → Type 0
+TellsOpen mode i s rows row found = MatchOption found (IsClosedAt mode i s rows row) (IsFirstOpen mode i s rows row)
 
 -- whether the pair's left list shows an item that its right list doesn't
 abbrev pub TellsMore : System → System → Row → Bool → Type 0

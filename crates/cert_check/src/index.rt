@@ -1,13 +1,27 @@
-//! The pairs of a relation, found by their lists: each pair has a key, which begins with the hash of
-//! its lists, and the keys are sorted.
-ghost use Rattle.std.specs.Prelude.{◌≡◌, ℕ, ◌+◌, ◌*◌, ◌^◌, ◌<◌, ◌≤◌, ◌↔◌, [], length, All, Contains, IsTrue, IfOk, slice_index_or as get_or};
-ghost use Rattle.std.specs.List.Sorted.{IsNonDecreasing, IsPartitionPoint};
+//! The pairs of a relation, found by their lists: the lists of each side are sorted once, a list is
+//! found by halves, and a pair is the two places of its lists as one number.
+ghost use Rattle.std.specs.Prelude.{◌≡◌, ℕ, ◌+◌, ◌*◌, ◌^◌, ◌<◌, ◌↔◌, [], length, All, Contains, IsTrue, false, IfOk, MatchOption, slice_index_or as get_or};
+ghost use Rattle.lts_base.specs.Alphabet.{AreRising, text_at};
 ghost use Rattle.lts_base.specs.Related.{rows_of};
 ghost use Rattle.cert_check.specs.Checks.{IsPairOf};
-ghost use Rattle.cert_check.specs.Index.{Names, hash_on, hash_of, key_of, pair_at, IsIndex};
+ghost use Rattle.cert_check.specs.Index.{IsPlace, IsKey, LacksKey, AreSorted, IsIndex, AreRepeats};
 
-use lts_base::{Memory, Relation, StateList};
+use crate::numbers::Numbers;
+use lts_base::{Listed, Memory, Relation, StateList};
 use std::alloc::Global;
+
+/// Where the pairs of a relation are found.
+#[derive(Drop)]
+pub(crate) struct Index {
+    /// The distinct left lists in the order of their states.
+    lefts: Vec<StateList>,
+    /// The distinct right lists in the order of their states.
+    rights: Vec<StateList>,
+    /// The places of each pair's lists as one number.
+    keys: Numbers,
+    /// For each pair, whether an earlier one has the same lists.
+    repeated: Vec<bool>,
+}
 
 /// The list with this number.
 pub fn list_at(lists: &[StateList], number: u32) -> &[u32]
@@ -17,94 +31,124 @@ pub fn list_at(lists: &[StateList], number: u32) -> &[u32]
     lists[number as usize].as_slice()
 }
 
-/// The keys of the relation's pairs in ascending order.
-pub fn index_of(alloc: Global, relation: &Relation) -> Result<Vec<u64>, Memory>
+/// The index of the relation's pairs. It takes time linear in the lists but for a logarithm.
+pub(crate) fn index_of(alloc: Global, relation: &Relation) -> Result<Index, Memory>
     requires pairs { All (IsPairOf (length relation.now.left) (length relation.now.right)) relation.now.pairs }
-    requires few { length relation.now.pairs + 1 < 2 ^ 32 }
-    ensures { IfOk result (λ v. IsIndex relation.now v.items) }
+    ensures index { IfOk result (λ v. IsIndex relation.now v.lefts.items v.rights.items v.keys) }
+    ensures repeats { IfOk result (λ v. AreRepeats relation.now (length relation.now.pairs) v.repeated.items) }
 {
-    let lefts = relation.left.as_slice();
-    let rights = relation.right.as_slice();
+    let lists = relation.left.as_slice();
+    let others = relation.right.as_slice();
     let pairs = relation.pairs.as_slice();
-    let mut keys = Vec::new(alloc);
-    let mut place = 0;
+    let lefts = sorted_lists(alloc, lists)?;
+    let rights = sorted_lists(alloc, others)?;
+    let mut keys = Numbers::new(alloc);
+    let mut repeated = Vec::new(alloc);
     'pairs: for pair in pairs {
-        let hash = hash_of(list_at(lefts, pair.0), list_at(rights, pair.1));
-        keys.push(hash * 4_294_967_296 + place)?;
-        place += 1;
+        let left = list_at(lists, pair.0);
+        let right = list_at(others, pair.1);
+        let key = known_key(&lefts, &rights, left, right);
+        let fresh = keys.insert(key)?;
+        repeated.push(!fresh)?;
     }
-    keys.sort_unstable();
-    Ok(keys)
+    Ok(Index {
+        lefts,
+        rights,
+        keys,
+        repeated,
+    })
+}
+
+/// Whether an earlier pair has the lists of the pair with this number from 0.
+pub(crate) fn is_repeat(index: &Index, number: usize) -> bool
+    requires { number < length index.now.repeated.items }
+    ensures { result ≡ get_or index.now.repeated.items number false }
+{
+    index.repeated[number]
+}
+
+/// The distinct lists in the order of their states.
+fn sorted_lists(alloc: Global, lists: &[StateList]) -> Result<Vec<StateList>, Memory>
+    ensures sorted { IfOk result (λ v. AreSorted v.items) }
+    ensures all { IfOk result (λ v. All (Contains v.items) lists.now) }
+{
+    let mut sorted = copied(alloc, lists)?;
+    sort_once(&mut sorted);
+    // no machine has room for so many lists; a place has 32 bits in a key
+    if sorted.len() > u32::MAX as usize {
+        return Err(Memory);
+    }
+    Ok(sorted)
+}
+
+fn copied(alloc: Global, lists: &[StateList]) -> Result<Vec<StateList>, Memory>
+    ensures { IfOk result (λ v. v.items ≡ lists.now) }
+{
+    let mut copy = Vec::new(alloc);
+    'lists: for list in lists {
+        copy.push(Listed::from_vec(Vec::from_slice(alloc, list.as_slice())?))?;
+    }
+    Ok(copy)
+}
+
+/// Sorts the lists by their states, and drops repeats.
+fn sort_once(lists: &mut Vec<StateList>)
+    ensures rising { AreRising lists.new.items }
+    ensures all { All (Contains lists.new.items) lists.old.items }
+{
+    lists.sort_unstable_by(|a, b| a.as_slice().cmp(b.as_slice()));
+    lists.dedup_by(|a, b| a.as_slice() == b.as_slice());
+}
+
+/// The place of the list among lists that stand in the order of their states.
+fn place_of(lists: &[StateList], list: &[u32]) -> Option<usize>
+    requires { AreRising lists.now }
+    ensures { MatchOption result (¬ Contains lists.now list.now) (IsPlace lists.now list.now) }
+{
+    match lists.binary_search_by(|other| other.as_slice().cmp(list)) {
+        Ok(place) => Some(place),
+        Err(_) => None,
+    }
+}
+
+/// The key of two lists, where both are in the index.
+fn key_of(lefts: &[StateList], rights: &[StateList], left: &[u32], right: &[u32]) -> Option<u64>
+    requires lefts { AreSorted lefts.now }
+    requires rights { AreSorted rights.now }
+    ensures { MatchOption result (LacksKey lefts.now rights.now left.now right.now) (IsKey lefts.now rights.now left.now right.now) }
+{
+    let Some(first) = place_of(lefts, left) else {
+        return None;
+    };
+    let Some(second) = place_of(rights, right) else {
+        return None;
+    };
+    Some(first as u64 * 4_294_967_296 + second as u64)
+}
+
+/// The key of two lists that are in the index.
+fn known_key(lefts: &[StateList], rights: &[StateList], left: &[u32], right: &[u32]) -> u64
+    requires lefts { AreSorted lefts.now }
+    requires rights { AreSorted rights.now }
+    requires left { Contains lefts.now left.now }
+    requires right { Contains rights.now right.now }
+    ensures { IsKey lefts.now rights.now left.now right.now result }
+{
+    match key_of(lefts, rights, left, right) {
+        Some(key) => key,
+        None => unreachable!(),
+    }
 }
 
 /// Whether some pair of the relation holds these two lists.
-pub fn has_pair(relation: &Relation, index: &[u64], left: &[u32], right: &[u32]) -> bool
-    requires pairs { All (IsPairOf (length relation.now.left) (length relation.now.right)) relation.now.pairs }
-    requires few { length relation.now.pairs + 1 < 2 ^ 32 }
-    requires index { IsIndex relation.now index.now }
+pub(crate) fn has_pair(relation: &Relation, index: &Index, left: &[u32], right: &[u32]) -> bool
+    requires { IsIndex relation.now index.now.lefts.items index.now.rights.items index.now.keys }
     ensures { IsTrue result ↔ Contains (rows_of relation.now) (record { left = left.now; right = right.now }) }
 {
-    let low = hash_of(left, right) * 4_294_967_296;
-    let mut at = first_from(index, low);
-    'keys: while at < index.len() {
-        let key = index[at];
-        if key >= low + 4_294_967_296 {
-            return false;
-        }
-        if is_named(relation, (key % 4_294_967_296) as u32, left, right) {
-            return true;
-        }
-        at += 1;
+    // the relation is named by the clauses alone
+    let _ = &relation.pairs;
+    match key_of(&index.lefts, &index.rights, left, right) {
+        None => false,
+        Some(key) => index.keys.has(key),
     }
-    false
-}
-
-/// The place of the first key that isn't below this one.
-fn first_from(index: &[u64], low: u64) -> usize
-    requires { IsNonDecreasing index.now }
-    ensures within { result ≤ length index.now }
-    ensures point { IsPartitionPoint (λ (key : ℕ). key < low) (λ (key : ℕ). low ≤ key) index.now result }
-{
-    index.partition_point(|key| *key < low)
-}
-
-/// Whether the pair at this place names these two lists.
-fn is_named(relation: &Relation, place: u32, left: &[u32], right: &[u32]) -> bool
-    requires pairs { All (IsPairOf (length relation.now.left) (length relation.now.right)) relation.now.pairs }
-    requires place { place < length relation.now.pairs }
-    ensures { IsTrue result ↔ Names relation.now (pair_at relation.now place) left.now right.now }
-{
-    let pair = relation.pairs.as_slice()[place as usize];
-    if !is_same(list_at(relation.left.as_slice(), pair.0), left) {
-        return false;
-    }
-    is_same(list_at(relation.right.as_slice(), pair.1), right)
-}
-
-/// Whether the two lists are the same.
-fn is_same(one: &[u32], other: &[u32]) -> bool
-    ensures { IsTrue result ↔ (one.now ≡ other.now) }
-{
-    one == other
-}
-
-/// The hash of two lists.
-fn hash_of(left: &[u32], right: &[u32]) -> u64
-    ensures value { result ≡ hash_of left.now right.now }
-    ensures small { result < 4294967291 }
-{
-    hash_on(hash_on(0, left), right)
-}
-
-/// The hash of a list that stands after what has the hash `before`.
-fn hash_on(before: u64, list: &[u32]) -> u64
-    requires { before < 4294967291 }
-    ensures value { result ≡ hash_on before list.now }
-    ensures small { result < 4294967291 }
-{
-    let mut hash = before;
-    'states: for state in list {
-        hash = (hash * 1_103_515_245 + *state as u64 + 1) % 4_294_967_291;
-    }
-    hash
 }

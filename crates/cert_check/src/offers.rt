@@ -1,20 +1,21 @@
 //! What a list of states shows and allows. Nothing here takes memory.
 ghost use Rattle.std.specs.Prelude.{◌≡◌, ℕ, ◌<◌, ◌↔◌, All, Contains, IsTrue};
 ghost use Rattle.lts_base.specs.declared.action.Act.TheVariants.{Label};
-ghost use Rattle.lts_base.specs.System.{IsItemOf, IsStable, Takes, HasMove};
+ghost use Rattle.lts_base.specs.System.{IsItemOf, IsStable, Takes};
 ghost use Rattle.lts_base.specs.After.{Gives, Shows, Allows, AllStableTake};
 
-use crate::sets::carries;
-use lts_base::{Act, Item, Lts, Mode, is_quiet};
+use crate::moves::has_move;
+use crate::side::Side;
+use lts_base::{Act, Item, Lts, Mode};
 
 /// Whether some member of the list gives the item; of an input none does.
-pub fn shows(lts: &Lts, list: &[u32], item: Item) -> bool
-    requires list { All (λ (q : ℕ). q < lts.now.states) list.now }
-    requires item { IsItemOf lts.now item }
-    ensures { IsTrue result ↔ Shows lts.now list.now item }
+pub fn shows(side: &Side, list: &[u32], item: Item) -> bool
+    requires list { All (λ (q : ℕ). q < side.now.states) list.now }
+    requires item { IsItemOf side.now item }
+    ensures { IsTrue result ↔ Shows side.now list.now item }
 {
     'states: for state in list {
-        if gives(lts, *state, item) {
+        if gives(side, *state, item) {
             return true;
         }
     }
@@ -23,28 +24,28 @@ pub fn shows(lts: &Lts, list: &[u32], item: Item) -> bool
 
 /// Whether the list allows the item: it shows the output or `delta`; of an input, some member takes
 /// it, and under uioco each stable member does.
-pub fn allows(lts: &Lts, mode: Mode, list: &[u32], item: Item) -> bool
-    requires list { All (λ (q : ℕ). q < lts.now.states) list.now }
-    requires item { IsItemOf lts.now item }
-    ensures { IsTrue result ↔ Allows mode lts.now list.now item }
+pub fn allows(side: &Side, mode: Mode, list: &[u32], item: Item) -> bool
+    requires list { All (λ (q : ℕ). q < side.now.states) list.now }
+    requires item { IsItemOf side.now item }
+    ensures { IsTrue result ↔ Allows mode side.now list.now item }
 {
     match item {
-        Item::Input(label) => allows_input(lts, mode, list, label),
-        Item::Output(_) => shows(lts, list, item),
-        Item::Delta => shows(lts, list, item),
+        Item::Input(label) => allows_input(side.lts(), mode, list, label),
+        Item::Output(_) => shows(side, list, item),
+        Item::Delta => shows(side, list, item),
     }
 }
 
 /// Whether the state gives the item: a move with the output leaves it, or it is quiet.
-fn gives(lts: &Lts, state: u32, item: Item) -> bool
-    requires state { state < lts.now.states }
-    requires item { IsItemOf lts.now item }
-    ensures { IsTrue result ↔ Gives lts.now state item }
+fn gives(side: &Side, state: u32, item: Item) -> bool
+    requires state { state < side.now.states }
+    requires item { IsItemOf side.now item }
+    ensures { IsTrue result ↔ Gives side.now state item }
 {
     match item {
         Item::Input(_) => false,
-        Item::Output(label) => has_move(lts, state, Act::Label(label)),
-        Item::Delta => is_quiet(lts, state),
+        Item::Output(label) => has_move(side.lts(), state, Act::Label(label)),
+        Item::Delta => side.is_quiet(state),
     }
 }
 
@@ -95,18 +96,4 @@ fn takes_if_stable(lts: &Lts, state: u32, label: u32) -> bool
         return true;
     }
     has_move(lts, state, Act::Label(label))
-}
-
-/// Whether a move with the action leaves the state.
-fn has_move(lts: &Lts, state: u32, act: Act) -> bool
-    requires { state < lts.now.states }
-    ensures { IsTrue result ↔ ((q : ℕ) × HasMove lts.now state act q) }
-{
-    let moves = lts.moves_of(state);
-    'moves: for m in moves {
-        if carries(m.act, act) {
-            return true;
-        }
-    }
-    false
 }

@@ -5,15 +5,18 @@ ghost use Rattle.lts_base.specs.Conformance.{IsConforming};
 ghost use Rattle.lts_base.specs.Related.{rows_of, IsClosedAt};
 ghost use Rattle.cert_check.specs.declared.checked.Checked.{Checked as TheChecked};
 ghost use Rattle.cert_check.specs.Checks.{IsListOf, IsPairOf, HasOpening, IsFirstOpen, IsCheckedRelation};
-ghost use Rattle.cert_check.specs.Index.{IsIndex};
-ghost use Rattle.cert_check.specs.Progress.{IsRelationOf, TellsMore, TellsClosed};
+ghost use Rattle.cert_check.specs.Index.{IsIndex, AreRepeats};
+ghost use Rattle.cert_check.specs.Present.{ArePresent};
+ghost use Rattle.cert_check.specs.Progress.{IsRelationOf, TellsMore, TellsClosed, TellsOpen};
 
 use crate::checked::Checked;
-use crate::index::{has_pair, index_of, list_at};
+use crate::index::{Index, has_pair, index_of, is_repeat, list_at};
 use crate::items::item_at;
 use crate::marks::Marks;
 use crate::offers::{allows, shows};
+use crate::present::present_in;
 use crate::sets::{next_of, opening_of};
+use crate::side::Side;
 use lts_base::{Item, Lts, Memory, Mode, Relation};
 use std::alloc::Global;
 
@@ -38,13 +41,28 @@ pub fn check_relation(
     ensures only { IfOk result (λ c. (d : TheChecked) → IsCheckedRelation mode imp.now spec.now relation.now d → d ≡ c) }
     ensures conforms { IfOk result (λ c. c ≡ Checked.Accepted → IsConforming mode imp.now spec.now) }
 {
-    let imp_states = imp.states();
-    let spec_states = spec.states();
-    let mut imp_marks = Marks::new(alloc, imp_states)?;
-    let mut spec_marks = Marks::new(alloc, spec_states)?;
+    let imp_side = Side::new(alloc, imp)?;
+    let spec_side = Side::new(alloc, spec)?;
+    let checked = test_relation(alloc, &imp_side, &spec_side, mode, relation)?;
+    Ok(checked)
+}
+
+fn test_relation(
+    alloc: Global,
+    imp: &Side,
+    spec: &Side,
+    mode: Mode,
+    relation: &Relation,
+) -> Result<Checked, Memory>
+    requires relation { IsRelationOf imp.now spec.now relation.now }
+    requires few { length relation.now.pairs + 1 < 2 ^ 32 }
+    ensures { IfOk result (IsCheckedRelation mode imp.now spec.now relation.now) }
+{
+    let mut imp_marks = Marks::new(alloc, imp.states())?;
+    let mut spec_marks = Marks::new(alloc, spec.states())?;
     let index = index_of(alloc, relation)?;
-    let left = opening_of(alloc, imp, &mut imp_marks)?;
-    let right = opening_of(alloc, spec, &mut spec_marks)?;
+    let left = opening_of(alloc, imp.lts(), &mut imp_marks)?;
+    let right = opening_of(alloc, spec.lts(), &mut spec_marks)?;
     if !has_pair(relation, &index, &left, &right) {
         return Ok(Checked::Start);
     }
@@ -64,17 +82,18 @@ pub fn check_relation(
 /// Checks pair by pair, where the opening sets are a pair.
 fn check_pairs(
     alloc: Global,
-    imp: &Lts,
-    spec: &Lts,
+    imp: &Side,
+    spec: &Side,
     mode: Mode,
     relation: &Relation,
-    index: &[u64],
+    index: &Index,
     imp_marks: &mut Marks,
     spec_marks: &mut Marks,
 ) -> Result<Checked, Memory>
     requires relation { IsRelationOf imp.now spec.now relation.now }
+    requires index { IsIndex relation.now index.now.lefts.items index.now.rights.items index.now.keys }
     requires few { length relation.now.pairs + 1 < 2 ^ 32 }
-    requires index { IsIndex relation.now index.now }
+    requires repeats { AreRepeats relation.now (length relation.now.pairs) index.now.repeated.items }
     requires opening { HasOpening imp.now spec.now (rows_of relation.now) }
     requires imp_states { imp_marks.old.states ≡ imp.now.states }
     requires spec_states { spec_marks.old.states ≡ spec.now.states }
@@ -86,23 +105,28 @@ fn check_pairs(
     let mut number = 0;
     'pairs: for pair in pairs {
         number += 1;
-        let left = list_at(lefts, pair.0);
-        let right = list_at(rights, pair.1);
-        if shows_more(imp, spec, left, right) {
-            return Ok(Checked::Outputs(number));
-        }
-        let fault = first_open(
-            alloc, imp, spec, mode, relation, index, imp_marks, spec_marks, left, right,
-        )?;
-        if let Some(item) = fault {
-            return Ok(Checked::NotClosed(number, item));
+        if !is_repeat(index, number as usize - 1) {
+            let left = list_at(lefts, pair.0);
+            let right = list_at(rights, pair.1);
+            let present = present_in(alloc, imp.lts(), left)?;
+            if shows_more(imp, spec, &present, left, right) {
+                return Ok(Checked::Outputs(number));
+            }
+            let fault = first_open(
+                alloc, imp, spec, mode, relation, index, imp_marks, spec_marks, &present, left,
+                right,
+            )?;
+            if let Some(item) = fault {
+                return Ok(Checked::NotClosed(number, item));
+            }
         }
     }
     Ok(Checked::Accepted)
 }
 
 /// Whether the left list shows an item that the right one doesn't.
-fn shows_more(imp: &Lts, spec: &Lts, left: &[u32], right: &[u32]) -> bool
+fn shows_more(imp: &Side, spec: &Side, present: &[bool], left: &[u32], right: &[u32]) -> bool
+    requires present { ArePresent imp.now left.now (length left.now) present.now }
     requires inputs { spec.now.inputs ≡ imp.now.inputs }
     requires outputs { spec.now.outputs ≡ imp.now.outputs }
     requires left { All (λ (q : ℕ). q < imp.now.states) left.now }
@@ -112,10 +136,12 @@ fn shows_more(imp: &Lts, spec: &Lts, left: &[u32], right: &[u32]) -> bool
     let inputs = imp.inputs();
     let outputs = imp.outputs();
     'items: for number in inputs..inputs + outputs + 1 {
-        let item = item_at(inputs, outputs, number);
-        if shows(imp, left, item) {
-            if !shows(spec, right, item) {
-                return true;
+        if present[number as usize] {
+            let item = item_at(inputs, outputs, number);
+            if shows(imp, left, item) {
+                if !shows(spec, right, item) {
+                    return true;
+                }
             }
         }
     }
@@ -125,36 +151,39 @@ fn shows_more(imp: &Lts, spec: &Lts, left: &[u32], right: &[u32]) -> bool
 /// The first item at which the pair of these lists isn't closed.
 fn first_open(
     alloc: Global,
-    imp: &Lts,
-    spec: &Lts,
+    imp: &Side,
+    spec: &Side,
     mode: Mode,
     relation: &Relation,
-    index: &[u64],
+    index: &Index,
     imp_marks: &mut Marks,
     spec_marks: &mut Marks,
+    present: &[bool],
     left: &[u32],
     right: &[u32],
 ) -> Result<Option<Item>, Memory>
     requires relation { IsRelationOf imp.now spec.now relation.now }
-    requires few { length relation.now.pairs + 1 < 2 ^ 32 }
-    requires index { IsIndex relation.now index.now }
+    requires index { IsIndex relation.now index.now.lefts.items index.now.rights.items index.now.keys }
     requires imp_states { imp_marks.old.states ≡ imp.now.states }
     requires spec_states { spec_marks.old.states ≡ spec.now.states }
+    requires present { ArePresent imp.now left.now (length left.now) present.now }
     requires left { All (λ (q : ℕ). q < imp.now.states) left.now }
     requires right { All (λ (q : ℕ). q < spec.now.states) right.now }
     ensures imp_states { imp_marks.new.states ≡ imp_marks.old.states }
     ensures spec_states { spec_marks.new.states ≡ spec_marks.old.states }
-    ensures open_at { IfOk result (λ o. MatchOption o (IsClosedAt mode imp.now spec.now (rows_of relation.now) (record { left = left.now; right = right.now })) (IsFirstOpen mode imp.now spec.now (rows_of relation.now) (record { left = left.now; right = right.now }))) }
+    ensures open_at { IfOk result (TellsOpen mode imp.now spec.now (rows_of relation.now) (record { left = left.now; right = right.now })) }
 {
     let inputs = spec.inputs();
     let outputs = spec.outputs();
     'items: for number in 0..inputs + outputs + 1 {
-        let item = item_at(inputs, outputs, number);
-        let closed = is_closed(
-            alloc, imp, spec, mode, relation, index, imp_marks, spec_marks, left, right, item,
-        )?;
-        if !closed {
-            return Ok(Some(item));
+        if present[number as usize] {
+            let item = item_at(inputs, outputs, number);
+            let closed = is_closed(
+                alloc, imp, spec, mode, relation, index, imp_marks, spec_marks, left, right, item,
+            )?;
+            if !closed {
+                return Ok(Some(item));
+            }
         }
     }
     Ok(None)
@@ -164,11 +193,11 @@ fn first_open(
 /// pair of the relation.
 fn is_closed(
     alloc: Global,
-    imp: &Lts,
-    spec: &Lts,
+    imp: &Side,
+    spec: &Side,
     mode: Mode,
     relation: &Relation,
-    index: &[u64],
+    index: &Index,
     imp_marks: &mut Marks,
     spec_marks: &mut Marks,
     left: &[u32],
@@ -176,8 +205,7 @@ fn is_closed(
     item: Item,
 ) -> Result<bool, Memory>
     requires relation { IsRelationOf imp.now spec.now relation.now }
-    requires few { length relation.now.pairs + 1 < 2 ^ 32 }
-    requires index { IsIndex relation.now index.now }
+    requires index { IsIndex relation.now index.now.lefts.items index.now.rights.items index.now.keys }
     requires imp_states { imp_marks.old.states ≡ imp.now.states }
     requires spec_states { spec_marks.old.states ≡ spec.now.states }
     requires left { All (λ (q : ℕ). q < imp.now.states) left.now }

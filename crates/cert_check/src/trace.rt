@@ -10,6 +10,7 @@ use crate::checked::Checked;
 use crate::marks::Marks;
 use crate::offers::{allows, shows};
 use crate::sets::{next_of, opening_of};
+use crate::side::Side;
 use lts_base::{Item, Lts, Memory, Mode, Trace};
 use std::alloc::Global;
 
@@ -32,15 +33,17 @@ pub fn check_trace(
     ensures checked { IfOk result (IsCheckedTrace mode imp.now spec.now trace.now shown) }
     ensures only { IfOk result (λ c. (d : TheChecked) → IsCheckedTrace mode imp.now spec.now trace.now shown d → d ≡ c) }
 {
-    let checked = test_trace(alloc, imp, spec, mode, trace.as_slice(), shown)?;
+    let imp_side = Side::new(alloc, imp)?;
+    let spec_side = Side::new(alloc, spec)?;
+    let checked = test_trace(alloc, &imp_side, &spec_side, mode, trace.as_slice(), shown)?;
     Ok(checked)
 }
 
 /// What the check of the items and the item after them answers.
 fn test_trace(
     alloc: Global,
-    imp: &Lts,
-    spec: &Lts,
+    imp: &Side,
+    spec: &Side,
     mode: Mode,
     items: &[Item],
     shown: Item,
@@ -69,7 +72,7 @@ fn test_trace(
 /// The first place of the trace, from 1, up to which it isn't allowed.
 fn first_not_allowed(
     alloc: Global,
-    spec: &Lts,
+    spec: &Side,
     mode: Mode,
     items: &[Item],
 ) -> Result<Option<u32>, Memory>
@@ -79,7 +82,7 @@ fn first_not_allowed(
 {
     let states = spec.states();
     let mut marks = Marks::new(alloc, states)?;
-    let mut set = opening_of(alloc, spec, &mut marks)?;
+    let mut set = opening_of(alloc, spec.lts(), &mut marks)?;
     let mut place = 0;
     'items: for item in items {
         place += 1;
@@ -92,16 +95,16 @@ fn first_not_allowed(
 }
 
 /// The set after the trace.
-fn set_after(alloc: Global, lts: &Lts, items: &[Item]) -> Result<Vec<u32>, Memory>
-    requires { All (IsItemOf lts.now) items.now }
-    ensures set { IfOk result (λ v. IsSetAfter lts.now items.now v.items) }
-    ensures within { IfOk result (λ v. All (λ (q : ℕ). q < lts.now.states) v.items) }
+fn set_after(alloc: Global, side: &Side, items: &[Item]) -> Result<Vec<u32>, Memory>
+    requires { All (IsItemOf side.now) items.now }
+    ensures set { IfOk result (λ v. IsSetAfter side.now items.now v.items) }
+    ensures within { IfOk result (λ v. All (λ (q : ℕ). q < side.now.states) v.items) }
 {
-    let states = lts.states();
+    let states = side.states();
     let mut marks = Marks::new(alloc, states)?;
-    let mut set = opening_of(alloc, lts, &mut marks)?;
+    let mut set = opening_of(alloc, side.lts(), &mut marks)?;
     'items: for item in items {
-        set = next_of(alloc, lts, &mut marks, &set, *item)?;
+        set = next_of(alloc, side, &mut marks, &set, *item)?;
     }
     Ok(set)
 }

@@ -1,38 +1,24 @@
 -- What a line adds is one thing, or it has one fault.
-use Rattle.std.proofs.Common.{◌≡◌, ◌∙◌, ℕ, zero, suc, ◌+◌, ◌^◌, ◌<◌, ◌≤◌, List, [], ◌∷◌, ◌++◌, map, All, Contains, ◌⊎◌, inl, inr, refl, sym, ap, subst, arith, decimal, codes}
+use Rattle.std.proofs.Common.{◌≡◌, ◌∙◌, ℕ, zero, suc, ◌+◌, ◌^◌, ◌<◌, ◌≤◌, List, [], ◌∷◌, ◌++◌, map, All, ◌⊎◌, inl, inr, refl, sym, ap, subst, arith, decimal, codes}
 use Rattle.std.proofs.lemmas.Fmt.{decimal_injective}
-use Rattle.std.proofs.lemmas.List.Elements.{Contains-get_or}
 use Rattle.lts_base.specs.declared.item.Item.{Item}
-use Rattle.lts_base.specs.declared.item.Item.TheVariants.{Input, Output, Delta}
 use Rattle.lts_base.specs.declared.item.Mode.{Mode}
 use Rattle.lts_base.specs.declared.item.Mode.TheVariants.{Ioco, Uioco}
 use Rattle.lts_base.specs.Alphabet.{Alphabet, IsAlphabet}
-use Rattle.lts_base.proofs.UniqueLaws.{number_unique}
 use Rattle.cert_text.specs.declared.error.CertError.{CertError}
 use Rattle.cert_text.specs.declared.error.CertError.TheVariants.{Line, Cut, UnknownLabel, StateRange, Memory}
 use Rattle.cert_text.specs.declared.stage.Stage.{Stage}
 use Rattle.cert_text.specs.declared.stage.Stage.TheVariants.{Opening, Titled, Moded, Pairing, Tracing, Showing, Ended}
-use Rattle.cert_text.specs.Printed.{spaced, item_text, mode_line}
-use Rattle.cert_text.specs.Certificate.{IsItem, LacksDelta}
+use Rattle.cert_text.specs.Printed.{spaced, mode_line}
+use Rattle.trace_text.specs.Items.{item_text}
+use Rattle.trace_text.proofs.ItemLaws.{item_from_shown}
+use Rattle.trace_text.proofs.OnceLaws.{item_once}
 use Rattle.cert_text.specs.Numbers.{IsListOf, HasLarge, value_of}
 use Rattle.cert_text.specs.Faults.{MayFollow, NamesNone, ListsLarge, IsFaultOf, IsRestFault}
 use Rattle.cert_text.specs.Adding.{Adds}
 use Rattle.cert_text.proofs.NumberLaws.{value-decimal}
 use Rattle.cert_text.proofs.ListingLaws.{numbers_of, numbers_once, IsNumberList-states}
 use Rattle.cert_text.proofs.PieceLaws.{apart}
-use Rattle.cert_text.proofs.RunLaws.{shown_item}
-
--- an item is told by its text
-item_once : (a : Alphabet) (x y : Item) → IsAlphabet a → LacksDelta a → IsItem a x → IsItem a y → item_text a.texts x ≡ item_text a.texts y → x ≡ y
-item_once a (Input j) (Input k) alphabet free is_x is_y e = ap Input (number_unique a alphabet j k (omega (arith, is_x, alphabet.inputs)) (omega (arith, is_y, alphabet.inputs)) e)
-item_once a (Input j) (Output k) alphabet free is_x is_y e = let same : j ≡ k = number_unique a alphabet j k (omega (arith, is_x, alphabet.inputs)) is_y.1 e in absurd (omega (arith, same, is_x, is_y.0))
-item_once a (Input j) Delta alphabet free is_x is_y e = absurd (free (subst (Contains a.texts) e (Contains-get_or a.texts j [] (omega (arith, is_x, alphabet.inputs)))))
-item_once a (Output j) (Input k) alphabet free is_x is_y e = let same : j ≡ k = number_unique a alphabet j k is_x.1 (omega (arith, is_y, alphabet.inputs)) e in absurd (omega (arith, same, is_y, is_x.0))
-item_once a (Output j) (Output k) alphabet free is_x is_y e = ap Output (number_unique a alphabet j k is_x.1 is_y.1 e)
-item_once a (Output j) Delta alphabet free is_x is_y e = absurd (free (subst (Contains a.texts) e (Contains-get_or a.texts j [] is_x.1)))
-item_once a Delta (Input k) alphabet free is_x is_y e = absurd (free (subst (Contains a.texts) (sym e) (Contains-get_or a.texts k [] (omega (arith, is_y, alphabet.inputs)))))
-item_once a Delta (Output k) alphabet free is_x is_y e = absurd (free (subst (Contains a.texts) (sym e) (Contains-get_or a.texts k [] is_y.1)))
-item_once a Delta Delta alphabet free is_x is_y e = refl
 
 -- a mode is told by its line
 mode_once : (m n : Mode) → mode_line m ≡ mode_line n → m ≡ n
@@ -95,7 +81,6 @@ pair_once p q fits_p fits_q e =
 -- what holds of the bounds and the alphabet where lines tell what they add
 pub record IsSetting (a : Alphabet) (imp spec : ℕ) : Type 0 where
   pub alphabet : IsAlphabet a
-  pub free : LacksDelta a
   pub imp_small : imp ≤ 2 ^ 64
   pub spec_small : spec ≤ 2 ^ 64
 
@@ -136,13 +121,13 @@ Adds-once a imp spec (Pairing mode r) line t u set (inr (inr (inr (e, is)))) (in
 Adds-once a imp spec (Pairing mode r) line t u set (inr (inr (inr (e, is)))) (inr (inr (inr (f, js)))) = is ∙ sym js
 Adds-once a imp spec (Tracing mode σ) line t u set (inl (x, item, e, is)) (inl (y, other, f, js)) =
     let g : codes "after " ++ item_text a.texts x ≡ codes "after " ++ item_text a.texts y = sym e ∙ f in
-    let same : x ≡ y = item_once a x y set.alphabet set.free item other cc in
+    let same : x ≡ y = item_once a (item_text a.texts x) x y set.alphabet (item, refl) (other, cc) in
     is ∙ ap {A = Item} {B = Stage} (λ z. Tracing mode (σ ++ z ∷ [])) same ∙ sym js
 Adds-once a imp spec (Tracing mode σ) line t u set (inl (x, item, e, is)) (inr (y, other, f, js)) = absurd (apart 97 115 _ _ (λ g. omega (arith, g)) (sym e ∙ f))
 Adds-once a imp spec (Tracing mode σ) line t u set (inr (x, item, e, is)) (inl (y, other, f, js)) = absurd (apart 115 97 _ _ (λ g. omega (arith, g)) (sym e ∙ f))
 Adds-once a imp spec (Tracing mode σ) line t u set (inr (x, item, e, is)) (inr (y, other, f, js)) =
     let g : codes "shows " ++ item_text a.texts x ≡ codes "shows " ++ item_text a.texts y = sym e ∙ f in
-    let same : x ≡ y = item_once a x y set.alphabet set.free (shown_item a x item) (shown_item a y other) cc in
+    let same : x ≡ y = item_once a (item_text a.texts x) x y set.alphabet (item_from_shown a x item, refl) (item_from_shown a y other, cc) in
     is ∙ ap {A = Item} {B = Stage} (λ z. Showing mode σ z) same ∙ sym js
 Adds-once a imp spec (Showing mode σ x) line t u set (e, is) (f, js) = is ∙ sym js
 Adds-once a imp spec (Ended cert) line t u set h k = absurd h
@@ -166,12 +151,12 @@ Adds-follows a imp spec (Ended cert) line t fi fs h = h
 Adds-names : (a : Alphabet) (imp spec : ℕ) (s : Stage) (line : List ℕ) (t : Stage) → Adds a imp spec s line t → NamesNone a s line → ⊥
 Adds-names a imp spec (Tracing mode σ) line t (inl (x, item, e, is)) (inl (text, f, none)) =
     let g : codes "after " ++ text ≡ codes "after " ++ item_text a.texts x = sym f ∙ e in
-    none x item cc
+    none x (item, cc)
 Adds-names a imp spec (Tracing mode σ) line t (inl (x, item, e, is)) (inr (text, f, none)) = apart 97 115 _ _ (λ g. omega (arith, g)) (sym e ∙ f)
 Adds-names a imp spec (Tracing mode σ) line t (inr (x, item, e, is)) (inl (text, f, none)) = apart 115 97 _ _ (λ g. omega (arith, g)) (sym e ∙ f)
 Adds-names a imp spec (Tracing mode σ) line t (inr (x, item, e, is)) (inr (text, f, none)) =
     let g : codes "shows " ++ text ≡ codes "shows " ++ item_text a.texts x = sym f ∙ e in
-    none x item cc
+    none x (item, cc)
 Adds-names a imp spec Opening line t adds none = none
 Adds-names a imp spec Titled line t adds none = none
 Adds-names a imp spec (Moded mode) line t adds none = none

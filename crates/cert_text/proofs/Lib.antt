@@ -6,5 +6,3 @@ pub mod ReadLaws
 pub mod RunLaws
 pub mod AddingOnce
 pub mod CertOnce
-pub mod SplitLaws
-pub mod CoinLabels

@@ -12,8 +12,9 @@ use Rattle.cert_text.specs.declared.error.CertError.{CertError}
 use Rattle.cert_text.specs.declared.error.CertError.TheVariants.{Line, Cut, UnknownLabel, StateRange, Memory}
 use Rattle.cert_text.specs.declared.stage.Stage.{Stage}
 use Rattle.cert_text.specs.declared.stage.Stage.TheVariants.{Opening, Titled, Moded, Pairing, Tracing, Showing, Ended}
+use Rattle.trace_text.specs.Items.{IsItem}
 use Rattle.cert_text.specs.Printed.{title_line, mode_line, relation_line, left_line, right_line, pair_line, after_line, shows_line, end_line, relation_lines, lines_at, with_ends}
-use Rattle.cert_text.specs.Certificate.{IsItem, IsStates, IsPair, IsStage}
+use Rattle.cert_text.specs.Certificate.{IsStates, IsPair, IsStage}
 use Rattle.cert_text.specs.Faults.{IsFaultOf, IsBegun, IsFirstFault, RefusesCert}
 use Rattle.cert_text.specs.Adding.{Adds}
 

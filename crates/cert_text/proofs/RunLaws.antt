@@ -6,18 +6,20 @@ use Rattle.std.proofs.lemmas.Bool.Decides.{Decides-ltb}
 use Rattle.std.proofs.lemmas.List.Elements.{All-nil, All-cons}
 use Rattle.std.proofs.lemmas.List.{append-nil, append_assoc, length-append, length-map, length_push}
 use Rattle.lts_base.specs.declared.item.Item.{Item}
-use Rattle.lts_base.specs.declared.item.Item.TheVariants.{Input, Output, Delta}
 use Rattle.lts_base.specs.declared.item.Mode.{Mode}
 use Rattle.lts_base.specs.declared.item.Mode.TheVariants.{Ioco, Uioco}
 use Rattle.lts_base.specs.declared.relation.Relation.{Relation}
-use Rattle.lts_base.specs.Alphabet.{Alphabet, IsAlphabet, text_at}
+use Rattle.lts_base.specs.Alphabet.{Alphabet, IsAlphabet}
 use Rattle.text_scan.specs.Cut.{Lacks}
 use Rattle.cert_text.specs.declared.cert.CertBody.{CertBody}
 use Rattle.cert_text.specs.declared.cert.CertBody.TheVariants.{Related, Shown}
 use Rattle.cert_text.specs.declared.stage.Stage.{Stage}
 use Rattle.cert_text.specs.declared.stage.Stage.TheVariants.{Opening, Titled, Moded, Pairing, Tracing, Showing, Ended}
-use Rattle.cert_text.specs.Printed.{spaced, item_text, title_line, mode_line, relation_line, trace_line, left_line, right_line, pair_line, after_line, shows_line, end_line, relation_lines, body_lines, lines_at}
-use Rattle.cert_text.specs.Certificate.{IsItem, IsShown, IsStates, IsPair, IsRelation, AreBelow, IsBody, IsBodyWithin, IsStage}
+use Rattle.trace_text.specs.Items.{IsItem, IsShown, item_text}
+use Rattle.trace_text.proofs.ItemLaws.{item_from_shown}
+use Rattle.trace_text.proofs.PrintLaws.{item_lacks}
+use Rattle.cert_text.specs.Printed.{spaced, title_line, mode_line, relation_line, trace_line, left_line, right_line, pair_line, after_line, shows_line, end_line, relation_lines, body_lines, lines_at}
+use Rattle.cert_text.specs.Certificate.{IsStates, IsPair, IsRelation, AreBelow, IsBody, IsBodyWithin, IsStage}
 use Rattle.cert_text.specs.Numbers.{IsNumber}
 use Rattle.cert_text.specs.Adding.{no_relation, Adds}
 use Rattle.cert_text.proofs.NumberLaws.{IsNumber-decimal, Lacks-digits}
@@ -145,25 +147,6 @@ Lacks-spaced : (ns : List (List ℕ)) → All IsNumber ns → Lacks 10 (spaced n
 Lacks-spaced [] each = tt
 Lacks-spaced (n ∷ ns) each = ((λ e. omega (arith, e)), Lacks-append 10 n (spaced ns) (Lacks-digits 10 n (omega arith) (each zero [] (omega arith)).digits) (Lacks-spaced ns (λ k d below. each (suc k) d (omega (arith, below)))))
 
--- a label has no LF
-Lacks-label : (text : List ℕ) → All (λ b. 32 ≤ b) text → Lacks 10 text
-Lacks-label [] plain = tt
-Lacks-label (b ∷ text) plain =
-    let first : 32 ≤ b = plain zero 0 (omega arith) in
-    ((λ e. omega (arith, first, e)), Lacks-label text (λ k d below. plain (suc k) d (omega (arith, below))))
-
--- the text of an item has no LF
-Lacks-item : (a : Alphabet) (x : Item) → IsAlphabet a → IsItem a x → Lacks 10 (item_text a.texts x)
-Lacks-item a (Input k) alphabet is = Lacks-label (text_at a.texts k) (alphabet.labels k [] (omega (arith, is, alphabet.inputs))).plain
-Lacks-item a (Output k) alphabet is = Lacks-label (text_at a.texts k) (alphabet.labels k [] is.1).plain
-Lacks-item a Delta alphabet is = lacks_tested (codes "delta") refl
-
--- what may be shown is an item
-pub shown_item : (a : Alphabet) (x : Item) → IsShown a x → IsItem a x
-shown_item a (Input k) is = absurd is
-shown_item a (Output k) is = is
-shown_item a Delta is = tt
-
 -- the last line has no LF
 Lacks-end : (n : ℕ) → n < 2 ^ 64 → Lacks 10 (end_line n)
 Lacks-end n low = Lacks-append 10 (codes "end") (spaced (decimal n ∷ [])) (lacks_tested (codes "end") refl) (Lacks-spaced (decimal n ∷ []) (All-cons IsNumber (decimal n) [] (IsNumber-decimal n low) (All-nil IsNumber)))
@@ -197,8 +180,8 @@ Adds-lacks a imp spec (Pairing mode r) line t alphabet fi fs few (inr (inr (inl 
     let both : All IsNumber (decimal (h.pair.0 + 1) ∷ decimal (h.pair.1 + 1) ∷ []) = All-cons IsNumber (decimal (h.pair.0 + 1)) (decimal (h.pair.1 + 1) ∷ []) one (All-cons IsNumber (decimal (h.pair.1 + 1)) [] two (All-nil IsNumber)) in
     rw (h.line_is) (Lacks-append 10 (codes "pair") (spaced (decimal (h.pair.0 + 1) ∷ decimal (h.pair.1 + 1) ∷ [])) (lacks_tested (codes "pair") refl) (Lacks-spaced (decimal (h.pair.0 + 1) ∷ decimal (h.pair.1 + 1) ∷ []) both))
 Adds-lacks a imp spec (Pairing mode r) line t alphabet fi fs few (inr (inr (inr (e, is)))) = rw e (Lacks-end (length r.pairs) few)
-Adds-lacks a imp spec (Tracing mode σ) line t alphabet fi fs few (inl (x, item, e, is)) = rw e (Lacks-append 10 (codes "after ") (item_text a.texts x) (lacks_tested (codes "after ") refl) (Lacks-item a x alphabet item))
-Adds-lacks a imp spec (Tracing mode σ) line t alphabet fi fs few (inr (x, item, e, is)) = rw e (Lacks-append 10 (codes "shows ") (item_text a.texts x) (lacks_tested (codes "shows ") refl) (Lacks-item a x alphabet (shown_item a x item)))
+Adds-lacks a imp spec (Tracing mode σ) line t alphabet fi fs few (inl (x, item, e, is)) = rw e (Lacks-append 10 (codes "after ") (item_text a.texts x) (lacks_tested (codes "after ") refl) (item_lacks a x alphabet item))
+Adds-lacks a imp spec (Tracing mode σ) line t alphabet fi fs few (inr (x, item, e, is)) = rw e (Lacks-append 10 (codes "shows ") (item_text a.texts x) (lacks_tested (codes "shows ") refl) (item_lacks a x alphabet (item_from_shown a x item)))
 Adds-lacks a imp spec (Showing mode σ x) line t alphabet fi fs few (e, is) = rw e (Lacks-end (length σ) few)
 Adds-lacks a imp spec (Ended cert) line t alphabet fi fs few h = absurd h
 

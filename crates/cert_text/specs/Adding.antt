@@ -1,16 +1,17 @@
--- What a line adds to the beginning of a certificate.
+-- Private: what a line adds to the beginning of a certificate.
 use Rattle.std.specs.Prelude.{◌≡◌, ℕ, ◌^◌, ◌<◌, List, [], ◌∷◌, ◌++◌, length, codes, Result, MatchResult, ◌⊎◌}
 use Rattle.lts_base.specs.declared.item.Item.{Item}
 use Rattle.lts_base.specs.declared.item.Mode.{Mode}
 use Rattle.lts_base.specs.declared.relation.Relation.{Relation}
 use Rattle.lts_base.specs.Alphabet.{Alphabet}
+use Rattle.trace_text.specs.Items.{IsItem, IsShown}
 use Rattle.cert_text.specs.declared.cert.Cert.{Cert}
 use Rattle.cert_text.specs.declared.cert.CertBody.TheVariants.{Related, Shown}
 use Rattle.cert_text.specs.declared.error.CertError.{CertError}
 use Rattle.cert_text.specs.declared.stage.Stage.{Stage}
 use Rattle.cert_text.specs.declared.stage.Stage.TheVariants.{Opening, Titled, Moded, Pairing, Tracing, Showing, Ended}
 use Rattle.cert_text.specs.Printed.{title_line, mode_line, relation_line, trace_line, pair_line, after_line, shows_line, end_line}
-use Rattle.cert_text.specs.Certificate.{IsItem, IsShown, IsPair}
+use Rattle.cert_text.specs.Certificate.{IsPair}
 use Rattle.cert_text.specs.Numbers.{IsListOf}
 use Rattle.cert_text.specs.Faults.{IsFaultOf, IsRestFault}
 
@@ -61,8 +62,10 @@ AddsShown a mode σ line next = (x : Item) × IsShown a x × (line ≡ shows_lin
 abbrev pub Adds : Alphabet → ℕ → ℕ → Stage → List ℕ → Stage → Type 0
 Adds a imp spec Opening line next = (line ≡ title_line) × (next ≡ Titled)
 Adds a imp spec Titled line next = (mode : Mode) × (line ≡ mode_line mode) × (next ≡ Moded mode)
-Adds a imp spec (Moded mode) line next = ((line ≡ relation_line) × (next ≡ Pairing mode no_relation)) ⊎ ((line ≡ trace_line) × (next ≡ Tracing mode []))
-Adds a imp spec (Pairing mode r) line next = AddsLeft imp mode r line next ⊎ (AddsRight spec mode r line next ⊎ (AddsPair mode r line next ⊎ EndsRelation mode r line next))
+Adds a imp spec (Moded mode) line next =
+    ((line ≡ relation_line) × (next ≡ Pairing mode no_relation)) ⊎ ((line ≡ trace_line) × (next ≡ Tracing mode []))
+Adds a imp spec (Pairing mode r) line next =
+    AddsLeft imp mode r line next ⊎ (AddsRight spec mode r line next ⊎ (AddsPair mode r line next ⊎ EndsRelation mode r line next))
 Adds a imp spec (Tracing mode σ) line next = AddsItem a mode σ line next ⊎ AddsShown a mode σ line next
 Adds a imp spec (Showing mode σ x) line next = (line ≡ end_line (length σ)) × (next ≡ Ended (record { mode = mode; body = Shown σ x }))
 Adds a imp spec (Ended cert) line next = ⊥

@@ -1,34 +1,15 @@
--- What a certificate is, and which content is the text of one.
-use Rattle.std.specs.Prelude.{◌≡◌, ℕ, ◌<◌, ◌≤◌, List, length, All, Contains, codes}
+-- Promise: what a certificate is, and which content is the text of one.
+use Rattle.std.specs.Prelude.{◌≡◌, ℕ, ◌<◌, List, length, All}
 use Rattle.std.specs.List.Sorted.{IsStrictlyIncreasing}
-use Rattle.lts_base.specs.declared.item.Item.{Item}
-use Rattle.lts_base.specs.declared.item.Item.TheVariants.{Input, Output, Delta}
 use Rattle.lts_base.specs.declared.relation.Relation.{Relation}
 use Rattle.lts_base.specs.Alphabet.{Alphabet}
+use Rattle.trace_text.specs.Items.{IsItem, IsShown}
 use Rattle.cert_text.specs.declared.cert.Cert.{Cert}
 use Rattle.cert_text.specs.declared.cert.CertBody.{CertBody}
 use Rattle.cert_text.specs.declared.cert.CertBody.TheVariants.{Related, Shown}
 use Rattle.cert_text.specs.declared.stage.Stage.{Stage}
 use Rattle.cert_text.specs.declared.stage.Stage.TheVariants.{Opening, Titled, Moded, Pairing, Tracing, Showing, Ended}
 use Rattle.cert_text.specs.Printed.{printed}
-
--- the item is one of the alphabet
-abbrev pub IsItem : Alphabet → Item → Type 0
-IsItem a (Input k) = k < a.inputs
-IsItem a (Output k) = (a.inputs ≤ k) × (k < length a.texts)
-IsItem a Delta = Unit {0}
-
--- the item is an output of the alphabet or `delta`
-abbrev pub IsShown : Alphabet → Item → Type 0
-IsShown a (Input k) = ⊥
-IsShown a (Output k) = (a.inputs ≤ k) × (k < length a.texts)
-IsShown a Delta = Unit {0}
-
--- the item has a text among those of n labels
-abbrev pub IsPrintable : ℕ → Item → Type 0
-IsPrintable n (Input k) = k < n
-IsPrintable n (Output k) = k < n
-IsPrintable n Delta = Unit {0}
 
 -- the list isn't empty, and each state is greater than the one before
 pub record IsStates (states : List ℕ) : Type 0 where
@@ -72,10 +53,6 @@ pub record IsCertOf (a : Alphabet) (imp spec : ℕ) (content : List ℕ) (cert :
   pub text : content ≡ printed a.texts cert
   pub sound : IsCert a cert
   pub within : IsWithin imp spec cert
-
--- no label is written as `delta` is
-abbrev pub LacksDelta : Alphabet → Type 0
-LacksDelta a = Contains a.texts (codes "delta") → ⊥
 
 -- the beginning of a certificate for systems over the alphabet with so many states
 abbrev pub IsStage : Alphabet → ℕ → ℕ → Stage → Type 0

@@ -1,16 +1,17 @@
--- Which line may follow the beginning of a certificate, and why a content is no certificate.
-use Rattle.std.specs.Prelude.{◌≡◌, ℕ, ◌+◌, List, [], ◌++◌, length, codes, ◌⊎◌}
-use Rattle.lts_base.specs.declared.item.Item.{Item}
+-- Promise: which line may follow the beginning of a certificate, and why a content is no certificate.
+use Rattle.std.specs.Prelude.{◌≡◌, ℕ, ◌+◌, List, [], ◌++◌, length, codes, Result, MatchResult, ◌⊎◌}
 use Rattle.lts_base.specs.declared.item.Mode.{Mode}
 use Rattle.lts_base.specs.declared.relation.Relation.{Relation}
 use Rattle.lts_base.specs.Alphabet.{Alphabet}
 use Rattle.text_scan.specs.Cut.{Lacks, IsCut}
+use Rattle.trace_text.specs.Items.{IsUnnamed, IsUnshown}
+use Rattle.cert_text.specs.declared.cert.Cert.{Cert}
 use Rattle.cert_text.specs.declared.error.CertError.{CertError}
 use Rattle.cert_text.specs.declared.error.CertError.TheVariants.{Line, Cut, UnknownLabel, StateRange, Memory}
 use Rattle.cert_text.specs.declared.stage.Stage.{Stage}
 use Rattle.cert_text.specs.declared.stage.Stage.TheVariants.{Opening, Titled, Moded, Pairing, Tracing, Showing, Ended}
-use Rattle.cert_text.specs.Printed.{item_text, title_line, mode_line, relation_line, trace_line, pair_line, end_line, lines_at, with_ends}
-use Rattle.cert_text.specs.Certificate.{IsItem, IsShown, IsPair, IsStage}
+use Rattle.cert_text.specs.Printed.{title_line, mode_line, relation_line, trace_line, pair_line, end_line, lines_at, with_ends}
+use Rattle.cert_text.specs.Certificate.{IsPair, IsStage}
 use Rattle.cert_text.specs.Numbers.{IsNumberList, HasLarge}
 
 -- the line is this word and a text of which this holds
@@ -34,13 +35,9 @@ MayFollow (Tracing mode σ) line = IsWordAnd (codes "after ") (λ text. Unit {0}
 MayFollow (Showing mode σ x) line = line ≡ end_line (length σ)
 MayFollow (Ended cert) line = ⊥
 
--- the text is that of no item of this kind
-abbrev pub IsUnnamed : List (List ℕ) → (Item → Type 0) → List ℕ → Type 0
-IsUnnamed texts Holds text = (x : Item) → Holds x → text ≡ item_text texts x → ⊥
-
 -- the line names no item of the alphabet, or shows a text that is neither an output nor `delta`
 abbrev pub NamesNone : Alphabet → Stage → List ℕ → Type 0
-NamesNone a (Tracing mode σ) line = IsWordAnd (codes "after ") (IsUnnamed a.texts (IsItem a)) line ⊎ IsWordAnd (codes "shows ") (IsUnnamed a.texts (IsShown a)) line
+NamesNone a (Tracing mode σ) line = IsWordAnd (codes "after ") (IsUnnamed a) line ⊎ IsWordAnd (codes "shows ") (IsUnshown a) line
 NamesNone a Opening line = ⊥
 NamesNone a Titled line = ⊥
 NamesNone a (Moded mode) line = ⊥
@@ -60,7 +57,7 @@ ListsLarge imp spec (Ended cert) line = ⊥
 
 -- what is wrong with line n, which comes after the stage: it may not follow; or else it names nothing; or else a state is too large
 abbrev pub IsFaultOf : Alphabet → ℕ → ℕ → Stage → List ℕ → ℕ → CertError → Type 0
-IsFaultOf a imp spec stage line n (Line k) = (k ≡ n) × (MayFollow stage line → ⊥)
+IsFaultOf a imp spec stage line n (Line k) = (k ≡ n) × ¬ MayFollow stage line
 IsFaultOf a imp spec stage line n (UnknownLabel k) = (k ≡ n) × MayFollow stage line × NamesNone a stage line
 IsFaultOf a imp spec stage line n (StateRange k) = (k ≡ n) × MayFollow stage line × ListsLarge imp spec stage line
 IsFaultOf a imp spec stage line n (Cut k) = ⊥
@@ -78,8 +75,8 @@ IsEnded (Showing mode σ x) = ⊥
 
 -- what is wrong with the rest, which has no whole line: the certificate isn't ended; or it is, and bytes follow
 abbrev pub IsRestFault : Stage → List ℕ → ℕ → CertError → Type 0
-IsRestFault stage rest n (Cut k) = (k ≡ n) × (IsEnded stage → ⊥)
-IsRestFault stage rest n (Line k) = (k ≡ n) × IsEnded stage × (rest ≡ [] → ⊥)
+IsRestFault stage rest n (Cut k) = (k ≡ n) × ¬ IsEnded stage
+IsRestFault stage rest n (Line k) = (k ≡ n) × IsEnded stage × ¬ (rest ≡ [])
 IsRestFault stage rest n (UnknownLabel k) = ⊥
 IsRestFault stage rest n (StateRange k) = ⊥
 IsRestFault stage rest n Memory = Unit {0}
@@ -92,7 +89,16 @@ pub record IsBegun (a : Alphabet) (imp spec : ℕ) (content : List ℕ) (stage :
 -- what is wrong after the stage, whose next line is line n: that line has its LF and is at fault, or the rest has no LF and is
 abbrev pub IsFaultAt : Alphabet → ℕ → ℕ → Stage → List ℕ → ℕ → CertError → Type 0
 IsFaultAt a imp spec stage rest n e =
-    ((line : List ℕ) × (after : List ℕ) × IsCut 10 rest line after × IsFaultOf a imp spec stage line n e) ⊎ (Lacks 10 rest × IsRestFault stage rest n e)
+    ((line : List ℕ) × (after : List ℕ) × IsCut 10 rest line after × IsFaultOf a imp spec stage line n e) ⊎
+    (Lacks 10 rest × IsRestFault stage rest n e)
+
+-- what is read where a line is at fault: this fault, where memory suffices
+abbrev pub IsRefused : CertError → Result Cert CertError → Type 0
+IsRefused e result = MatchResult result (λ _. ⊥) (λ f. (f ≡ e) ⊎ (f ≡ Memory))
+
+-- what is read of the text of this certificate, where memory suffices
+abbrev pub IsRead : Cert → Result Cert CertError → Type 0
+IsRead cert result = MatchResult result (λ c. c ≡ cert) (λ e. e ≡ Memory)
 
 -- the content begins with the lines of a stage, and the first line after them is at fault
 pub record IsFirstFault (a : Alphabet) (imp spec : ℕ) (content : List ℕ) (e : CertError) : Type 0 where

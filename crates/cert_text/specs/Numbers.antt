@@ -1,5 +1,5 @@
--- Numbers of any size, as texts, and lists of them.
-use Rattle.std.specs.Prelude.{◌≡◌, ℕ, ◌<◌, ◌≤◌, List, [], ◌∷◌, ◌++◌, length, map, All, decimal, slice_index_or as get_or}
+-- Promise: numbers of any size, as texts, and lists of them.
+use Rattle.std.specs.Prelude.{◌≡◌, ℕ, ◌+◌, ◌<◌, ◌≤◌, List, [], ◌∷◌, ◌++◌, length, map, All, decimal, slice_index_or as get_or}
 use Rattle.std.specs.Str.Parse.{AllDigits, digits_value}
 use Rattle.text_scan.specs.Cut.{Lacks}
 use Rattle.cert_text.specs.declared.error.CertError.{CertError}
@@ -62,6 +62,18 @@ pub record IsPiece (text piece rest : List ℕ) : Type 0 where
   pub free : Lacks 32 piece
   pub edge : IsEdge rest
 
+-- the text doesn't begin with a space and a number
+abbrev pub LacksNumber : List ℕ → Type 0
+LacksNumber text = (n : List ℕ) (ns : List (List ℕ)) → IsNumber n → ¬ (text ≡ spaced (n ∷ ns))
+
+-- the text of two places, which are counted from 1
+abbrev pub places_text : ℕ → ℕ → List ℕ
+places_text i j = spaced (decimal (i + 1) ∷ decimal (j + 1) ∷ [])
+
+-- the text is that of no two places below these bounds
+abbrev pub NamesNoPair : ℕ → ℕ → List ℕ → Type 0
+NamesNoPair lefts rights text = (i j : ℕ) → i < lefts → j < rights → ¬ (text ≡ places_text i j)
+
 -- the states are those that the text lists, all below the bound
 pub record AreStatesOf (bound : ℕ) (text states : List ℕ) : Type 0 where
   pub spelled : text ≡ spaced (map decimal states)
@@ -74,7 +86,7 @@ pub record IsListOf (bound : ℕ) (text states : List ℕ) : Type 0 where
 
 -- what is wrong with the list on line n: it is none; or else it has a number that isn't below the bound
 abbrev pub IsListFault : ℕ → List ℕ → ℕ → CertError → Type 0
-IsListFault bound text n (Line k) = (k ≡ n) × (IsNumberList text → ⊥)
+IsListFault bound text n (Line k) = (k ≡ n) × ¬ IsNumberList text
 IsListFault bound text n (StateRange k) = (k ≡ n) × IsNumberList text × HasLarge bound text
 IsListFault bound text n (Cut k) = ⊥
 IsListFault bound text n (UnknownLabel k) = ⊥

@@ -1,23 +1,16 @@
--- The texts of certificates, line by line.
+-- Promise: the texts of certificates, line by line.
 use Rattle.std.specs.Prelude.{ℕ, ◌+◌, List, [], ◌∷◌, ◌++◌, length, map, codes, decimal}
 use Rattle.std.specs.List.{flat_map}
 use Rattle.lts_base.specs.declared.item.Item.{Item}
-use Rattle.lts_base.specs.declared.item.Item.TheVariants.{Input, Output, Delta}
 use Rattle.lts_base.specs.declared.item.Mode.{Mode}
 use Rattle.lts_base.specs.declared.item.Mode.TheVariants.{Ioco, Uioco}
 use Rattle.lts_base.specs.declared.relation.Relation.{Relation}
-use Rattle.lts_base.specs.Alphabet.{text_at}
+use Rattle.trace_text.specs.Items.{item_text}
 use Rattle.cert_text.specs.declared.cert.Cert.{Cert}
 use Rattle.cert_text.specs.declared.cert.CertBody.{CertBody}
 use Rattle.cert_text.specs.declared.cert.CertBody.TheVariants.{Related, Shown}
 use Rattle.cert_text.specs.declared.stage.Stage.{Stage}
 use Rattle.cert_text.specs.declared.stage.Stage.TheVariants.{Opening, Titled, Moded, Pairing, Tracing, Showing, Ended}
-
--- an item by the texts of the labels
-abbrev pub item_text : List (List ℕ) → Item → List ℕ
-item_text texts (Input a) = text_at texts a
-item_text texts (Output a) = text_at texts a
-item_text texts Delta = codes "delta"
 
 -- the word for a mode
 abbrev pub mode_text : Mode → List ℕ

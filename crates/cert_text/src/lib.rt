@@ -3,7 +3,6 @@
 
 mod cert;
 mod error;
-mod item;
 mod line;
 mod listing;
 mod number;
@@ -12,12 +11,9 @@ mod piece;
 mod printer;
 mod reader;
 mod stage;
-#[cfg(test)]
-mod tests;
 mod tracing;
 
 pub use cert::{Cert, CertBody};
 pub use error::CertError;
 pub use printer::print_cert;
 pub use reader::read_cert;
-pub use stage::Stage;

@@ -1,7 +1,6 @@
 //! Lists of states, as texts.
 ghost use Rattle.std.specs.Prelude.{◌≡◌, ◌↔◌, ◌∷◌, ◌++◌, ◌<◌, List, ℕ, length, IsTrue, IfSome, MatchOption, MatchResult};
-ghost use Rattle.cert_text.specs.Numbers.{IsNumber, IsNumberList, HasLarge, AreNumbers, AreStatesOf, IsListOf, IsListFault, IsPiece};
-ghost use Rattle.cert_text.specs.Printed.{spaced};
+ghost use Rattle.cert_text.specs.Numbers.{IsNumber, IsNumberList, LacksNumber, HasLarge, AreNumbers, AreStatesOf, IsListOf, IsListFault, IsPiece};
 
 use crate::error::CertError;
 use crate::number::{below, is_less, is_number};
@@ -47,7 +46,7 @@ fn is_list(text: &[u8]) -> bool
 
 /// The number after the space at the front, and what follows it.
 fn next_number(text: &[u8]) -> Option<(&[u8], &[u8])>
-    ensures number { MatchOption result ((n : List ℕ) (ns : List (List ℕ)) → IsNumber n → text.now ≡ spaced (n ∷ ns) → ⊥) (λ cut. IsPiece text.now cut.0.now cut.1.now × IsNumber cut.0.now) }
+    ensures number { MatchOption result (LacksNumber text.now) (λ cut. IsPiece text.now cut.0.now cut.1.now × IsNumber cut.0.now) }
     ensures shorter { IfSome result (λ cut. length cut.1.now < length text.now) }
 {
     let Some((piece, rest)) = next_piece(text) else {

@@ -1,6 +1,7 @@
 //! Lines of a relation.
 ghost use Rattle.std.specs.Prelude.{◌≡◌, ℕ, ◌∷◌, ◌++◌, ◌+◌, ◌^◌, ◌<◌, [], length, codes, decimal, IsTrue, ◌↔◌, MatchOption};
 ghost use Rattle.lts_base.specs.Alphabet.{Alphabet};
+ghost use Rattle.cert_text.specs.Numbers.{NamesNoPair, places_text};
 ghost use Rattle.cert_text.specs.Printed.{spaced};
 ghost use Rattle.cert_text.specs.Adding.{Reads};
 
@@ -112,7 +113,7 @@ fn add_pair(mode: Mode, relation: Relation, text: &[u8], number: u32) -> Result<
 fn pair_in(text: &[u8], lefts: usize, rights: usize) -> Option<(u32, u32)>
     requires left { lefts < 2 ^ 32 }
     requires right { rights < 2 ^ 32 }
-    ensures { MatchOption result ((i j : ℕ) → i < lefts → j < rights → text.now ≡ spaced (decimal (i + 1) ∷ decimal (j + 1) ∷ []) → ⊥) (λ p. (p.0 < lefts) × (p.1 < rights) × (text.now ≡ spaced (decimal (p.0 + 1) ∷ decimal (p.1 + 1) ∷ []))) }
+    ensures { MatchOption result (NamesNoPair lefts rights text.now) (λ p. (p.0 < lefts) × (p.1 < rights) × (text.now ≡ places_text p.0 p.1)) }
 {
     let Some((first, others)) = next_piece(text) else {
         return None;

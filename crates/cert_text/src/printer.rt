@@ -1,11 +1,13 @@
 //! The text of a certificate.
 ghost use Rattle.std.specs.Prelude.{◌≡◌, ◌+◌, ◌∷◌, ◌++◌, ◌^◌, ◌<◌, ℕ, [], length, map, All, IfOk, OnOk, codes, decimal};
+ghost use Rattle.trace_text.specs.Items.{IsItem, IsShown};
 ghost use Rattle.cert_text.specs.Printed as text_of;
-ghost use Rattle.cert_text.specs.Certificate.{IsItem, IsShown, IsCert, IsWithin, IsCertOf, IsPrintable};
+ghost use Rattle.cert_text.specs.Certificate.{IsCert, IsWithin, IsCertOf};
 
 use crate::cert::{Cert, CertBody};
 use lts_base::{Item, Labels, Listed, Memory, Mode, Relation, StateList, Text};
 use std::alloc::{AllocError, Global};
+use trace_text::{put_item, put_items, put_line};
 
 /// The text of a certificate. For numbers of states above all states in its lists, it is the text
 /// of this certificate.
@@ -43,15 +45,6 @@ fn mode_word(mode: Mode) -> &'static [u8]
     }
 }
 
-/// Appends a line of two pieces.
-fn put_line(text: &mut Vec<u8>, front: &[u8], rest: &[u8]) -> Result<(), AllocError>
-    ensures { OnOk result (text.new.items ≡ text.old.items ++ ((front.now ++ rest.now) ++ 10 ∷ [])) }
-{
-    text.extend_from_slice(front)?;
-    text.extend_from_slice(rest)?;
-    text.extend_from_slice(b"\n")
-}
-
 /// Appends a space and a number.
 fn put_number(alloc: Global, text: &mut Vec<u8>, number: u64) -> Result<(), AllocError>
     ensures { OnOk result (text.new.items ≡ text.old.items ++ 32 ∷ decimal number) }
@@ -61,7 +54,7 @@ fn put_number(alloc: Global, text: &mut Vec<u8>, number: u64) -> Result<(), Allo
 }
 
 fn put_relation(alloc: Global, text: &mut Vec<u8>, relation: &Relation) -> Result<(), AllocError>
-    ensures { OnOk result (text.new.items ≡ text.old.items ++ text_of.with_ends (text_of.relation_line ∷ (text_of.relation_lines relation.now ++ text_of.end_line (length relation.now.pairs) ∷ []))) }
+    ensures { OnOk result (text.new.items ≡ text.old.items ++ text_of.with_ends (text_of.body_lines [] (CertBody.Related relation.now))) }
 {
     put_line(text, b"kind relation", b"")?;
     put_lists(alloc, text, b"left", relation.left.as_slice())?;
@@ -137,37 +130,13 @@ fn put_trace(
 ) -> Result<(), AllocError>
     requires trace { All (IsItem labels.now) trace.now }
     requires shown { IsShown labels.now shown }
-    ensures { OnOk result (text.new.items ≡ text.old.items ++ text_of.with_ends (text_of.trace_line ∷ (map (text_of.after_line labels.now.texts) trace.now ++ text_of.shows_line labels.now.texts shown ∷ text_of.end_line (length trace.now) ∷ []))) }
+    ensures { OnOk result (text.new.items ≡ text.old.items ++ text_of.with_ends (text_of.body_lines labels.now.texts (CertBody.Shown trace.now shown))) }
 {
     // the call tells that the inputs are among the labels
     let _ = labels.inputs();
     put_line(text, b"kind trace", b"")?;
-    put_items(text, trace, labels)?;
-    put_line(text, b"shows ", item_bytes(labels, shown))?;
+    put_items(text, b"after ", labels, trace)?;
+    put_item(text, b"shows ", labels, shown)?;
     put_end(alloc, text, trace.len())?;
     Ok(())
-}
-
-fn put_items(text: &mut Vec<u8>, trace: &[Item], labels: &Labels) -> Result<(), AllocError>
-    requires { All (IsItem labels.now) trace.now }
-    ensures { OnOk result (text.new.items ≡ text.old.items ++ text_of.with_ends (map (text_of.after_line labels.now.texts) trace.now)) }
-{
-    // the call tells that the inputs are among the labels
-    let _ = labels.inputs();
-    'items: for item in trace {
-        put_line(text, b"after ", item_bytes(labels, *item))?;
-    }
-    Ok(())
-}
-
-/// An item as it is printed.
-fn item_bytes<'a>(labels: &'a Labels, item: Item) -> &'a [u8]
-    requires { IsPrintable (length labels.now.texts) item }
-    ensures { result.now ≡ text_of.item_text labels.now.texts item }
-{
-    match item {
-        Item::Input(label) => labels.text(label),
-        Item::Output(label) => labels.text(label),
-        Item::Delta => b"delta",
-    }
 }

@@ -1,8 +1,8 @@
 //! The reader of certificates.
 ghost use Rattle.std.specs.Prelude.{◌≡◌, ◌⊎◌, ℕ, ◌+◌, ◌-◌, ◌^◌, ◌<◌, length, MatchResult};
 ghost use Rattle.text_scan.specs.Lines.{lines_of};
-ghost use Rattle.cert_text.specs.Certificate.{IsCertOf, LacksDelta};
-ghost use Rattle.cert_text.specs.Faults.{RefusesCert};
+ghost use Rattle.cert_text.specs.Certificate.{IsCertOf};
+ghost use Rattle.cert_text.specs.Faults.{RefusesCert, IsRead, IsRefused};
 ghost use Rattle.cert_text.specs.Adding.{Finishes};
 
 use crate::cert::Cert;
@@ -14,8 +14,8 @@ use std::alloc::Global;
 use text_scan::next_line;
 
 /// The certificate that the content is the text of, for systems over the labels with so many
-/// states. There are fewer than 2^32 - 1 lines. Where no label is `delta`, a content is the text of
-/// one certificate, or it has one first line at fault.
+/// states. There are fewer than 2^32 - 1 lines. A content is the text of one certificate, or
+/// it has one first line at fault.
 pub fn read_cert(
     alloc: Global,
     bytes: &[u8],
@@ -25,8 +25,8 @@ pub fn read_cert(
 ) -> Result<Cert, CertError>
     requires { length (lines_of bytes.now) < 2 ^ 32 - 1 }
     ensures read { MatchResult result (IsCertOf labels.now imp_states spec_states bytes.now) (RefusesCert labels.now imp_states spec_states bytes.now) }
-    ensures only { LacksDelta labels.now → (cert : Cert) → IsCertOf labels.now imp_states spec_states bytes.now cert → MatchResult result (λ c. c ≡ cert) (λ e. e ≡ CertError.Memory) }
-    ensures fault { LacksDelta labels.now → (e : CertError) → RefusesCert labels.now imp_states spec_states bytes.now e → (e ≡ CertError.Memory → ⊥) → MatchResult result (λ _. ⊥) (λ f. (f ≡ e) ⊎ (f ≡ CertError.Memory)) }
+    ensures only { (cert : Cert) → IsCertOf labels.now imp_states spec_states bytes.now cert → IsRead cert result }
+    ensures fault { (e : CertError) → RefusesCert labels.now imp_states spec_states bytes.now e → ¬ (e ≡ CertError.Memory) → IsRefused e result }
 {
     // the call tells what an alphabet is
     let _ = labels.inputs();

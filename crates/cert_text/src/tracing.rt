@@ -4,11 +4,11 @@ ghost use Rattle.cert_text.specs.Adding.{Reads};
 
 use crate::cert::{Cert, CertBody};
 use crate::error::CertError;
-use crate::item::{item_named, shown_named};
 use crate::pairing::is_end;
 use crate::piece::after_word;
 use crate::stage::Stage;
 use lts_base::{Item, Labels, Mode, Trace};
+use trace_text::{item_named, shown_named};
 
 /// What line `number` adds to a trace.
 pub fn read_tracing(

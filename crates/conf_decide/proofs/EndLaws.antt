@@ -7,20 +7,24 @@ use Rattle.std.proofs.lemmas.List.Elements.{Contains-get_or}
 use Rattle.std.proofs.lemmas.Nat.{mul-le}
 use Rattle.std.proofs.lemmas.Simd.{map-map}
 use Rattle.lts_base.specs.declared.relation.Relation.{Relation}
-use Rattle.lts_base.specs.System.{System}
 use Rattle.lts_base.specs.declared.item.Mode.{Mode}
-use Rattle.lts_base.specs.Reached.{Row, lefts, rights, distinct, Limits}
+use Rattle.lts_base.specs.Reached.{Row, lefts, rights, distinct}
 use Rattle.lts_base.specs.Related.{row_of, rows_of}
 use Rattle.lts_base.proofs.DistinctLaws.{Contains-from_distinct}
-use Rattle.walk_core.specs.Walked.{Walked, set_at, IsWalk, IsFresh}
+use Rattle.walk_core.specs.Walked.{Walked, set_at, IsWalk, IsFresh, Grows}
 use Rattle.conf_decide.specs.declared.table.Found.{Found}
 use Rattle.conf_decide.specs.declared.search.Setting.{Setting}
 use Rattle.conf_decide.specs.declared.answer.Answer.{Answer}
-use Rattle.conf_decide.specs.Decided.{limits_of, IsKept, IsConformance, IsPaid}
+use Rattle.conf_decide.specs.Decided.{limits_of, IsConformance, IsSettled, IsPaid, ArePaid}
+use Rattle.conf_decide.specs.declared.answer.Answer.TheVariants.{Conforms}
+use Rattle.conf_decide.specs.declared.answer.Verdict.{Verdict}
+use Rattle.conf_decide.specs.declared.answer.Verdict.TheVariants.{Conforms as Counted}
+use Rattle.conf_decide.specs.Told.{told_of}
 use Rattle.conf_decide.specs.Table.{found_at, nodes_of, IsAbove, rows_in}
-use Rattle.conf_decide.specs.Progress.{IsSetting, IsRunOf, IsNewest, IsTested}
+use Rattle.conf_decide.specs.Progress.{IsSetting, IsRunOf, IsNewest, IsTested, IsAnswer, TookBoth}
 use Rattle.conf_decide.proofs.SearchLaws.{search_row, no_violation, reached_pairs, valid_pairs}
 use Rattle.conf_decide.proofs.RunLaws.{row_in_at, rows_length, same_node}
+use Rattle.conf_decide.proofs.GrowLaws.{Took-trans}
 use Rattle.conf_decide.proofs.LookLaws.{few_pairs}
 use Rattle.conf_decide.proofs.TestLaws.{opening_untested, opening_run}
 
@@ -138,8 +142,9 @@ conformance setting wi ws found at p relation set run over left right pairs =
 
 -- ---- the steps that were taken
 
-pub paid_none : (mode : Mode) (limits : Limits) (i s : System) (items steps : ℕ) → IsPaid mode limits i s items steps steps
-paid_none mode limits i s items steps = (
+-- no step was taken, and no pair is needed
+pub paid_none : (mode : Mode) (pairs : ℕ) (wi ws : Walked) (steps : ℕ) → IsPaid mode pairs wi ws steps steps
+paid_none mode pairs wi ws steps = (
   [],
   [],
   record {
@@ -155,16 +160,16 @@ paid_none mode limits i s items steps = (
   },
 )
 
-pub paid : (setting : Setting) (wi ws : Walked) (found : List Found) (at p before after : ℕ) → IsRunOf setting wi ws found at p → at ≤ length found → after ≤ before + 2 * ((at + 1) * (setting.inputs + setting.outputs + 1)) →
-    IsPaid setting.mode (limits_of setting.most_pairs wi ws) wi.system ws.system (setting.inputs + setting.outputs + 1) before after
-paid setting wi ws found at p before after run few spent = (
+pub paid : (setting : Setting) (wi ws : Walked) (found : List Found) (at p before after : ℕ) → IsSetting setting wi ws → IsRunOf setting wi ws found at p → at ≤ length found →
+    after ≤ before + 2 * ((at + 1) * (setting.inputs + setting.outputs + 1)) → IsPaid setting.mode setting.most_pairs wi ws before after
+paid setting wi ws found at p before after set run few spent = (
   rows_in wi.sets ws.sets found,
   run.traces,
   record {
     first = run.search.first;
     within = rw whole at (run.within (length found) (omega arith));
     fine = run.search.fine;
-    bound = rw (rows_length wi.sets ws.sets found) (omega (arith, spent, mul-le (at + 1) (setting.inputs + setting.outputs + 1) (length found + 1) (setting.inputs + setting.outputs + 1) (omega (arith, few)) (omega arith)));
+    bound = rw (rows_length wi.sets ws.sets found, set.spec_inputs, set.spec_outputs) (omega (arith, spent, mul-le (at + 1) (setting.inputs + setting.outputs + 1) (length found + 1) (setting.inputs + setting.outputs + 1) (omega (arith, few)) (omega arith)));
   },
 )
   where
@@ -175,17 +180,38 @@ pub paid_more : (items at before between after : ℕ) → between ≤ before + 2
 paid_more items at before between after spent more = omega (arith, spent, more)
 
 -- a call for one pair ended the search
-pub paid_exit : (setting : Setting) (wi wi' ws ws' : Walked) (found : List Found) (at p before between after : ℕ) → IsRunOf setting wi ws found at p → IsKept wi wi' → IsKept ws ws' → at < length found →
+pub paid_exit : (setting : Setting) (wi wi' ws ws' : Walked) (found : List Found) (at p before between after : ℕ) → IsSetting setting wi ws → IsRunOf setting wi ws found at p → Grows wi wi' → Grows ws ws' → at < length found →
     between ≤ before + 2 * (at * (setting.inputs + setting.outputs + 1)) → after ≤ between + 2 * (setting.inputs + setting.outputs + 1) →
-    IsPaid setting.mode (limits_of setting.most_pairs wi' ws') wi'.system ws'.system (setting.inputs + setting.outputs + 1) before after
-paid_exit setting wi wi' ws ws' found at p before between after run imp spec within spent more =
-    rw (imp.system, imp.limit, spec.system, spec.limit) (paid setting wi ws found at p before after run (omega (arith, within)) (paid_more _ at before between after spent more))
+    IsPaid setting.mode setting.most_pairs wi' ws' before after
+paid_exit setting wi wi' ws ws' found at p before between after set run imp spec within spent more =
+    rw (imp.system, imp.limit, spec.system, spec.limit) (paid setting wi ws found at p before after set run (omega (arith, within)) (paid_more _ at before between after spent more))
 
 -- all pairs have been looked at
-pub paid_end : (setting : Setting) (wi ws : Walked) (found : List Found) (at p before after : ℕ) → IsRunOf setting wi ws found at p → at ≤ length found → after ≤ before + 2 * (at * (setting.inputs + setting.outputs + 1)) →
-    IsPaid setting.mode (limits_of setting.most_pairs wi ws) wi.system ws.system (setting.inputs + setting.outputs + 1) before after
-paid_end setting wi ws found at p before after run within spent =
-    paid setting wi ws found at p before after run within (paid_more (setting.inputs + setting.outputs + 1) at before after after spent (omega arith))
+pub paid_end : (setting : Setting) (wi ws : Walked) (found : List Found) (at p before after : ℕ) → IsSetting setting wi ws → IsRunOf setting wi ws found at p → at ≤ length found →
+    after ≤ before + 2 * (at * (setting.inputs + setting.outputs + 1)) → IsPaid setting.mode setting.most_pairs wi ws before after
+paid_end setting wi ws found at p before after set run within spent =
+    paid setting wi ws found at p before after set run within (paid_more (setting.inputs + setting.outputs + 1) at before after after spent (omega arith))
+
+-- ---- the steps by the walks' own counts
+
+pub few_none : (mode : Mode) (pairs : ℕ) (wi ws : Walked) (a b : ℕ) → ArePaid mode pairs wi ws a a b b
+few_none mode pairs wi ws a b = (0, 0, (0, refl), (0, refl), paid_none mode pairs wi ws 0)
+
+pub few_exit : (setting : Setting) (wi wi' ws ws' : Walked) (found : List Found) (at p a a' a'' b b' b'' : ℕ) → IsSetting setting wi ws → IsRunOf setting wi ws found at p → Grows wi wi' → Grows ws ws' → at < length found →
+    TookBoth a a' b b' (2 * (at * (setting.inputs + setting.outputs + 1))) → TookBoth a' a'' b' b'' (2 * (setting.inputs + setting.outputs + 1)) →
+    ArePaid setting.mode setting.most_pairs wi' ws' a a'' b b''
+few_exit setting wi wi' ws ws' found at p a a' a'' b b' b'' set run imp spec within (m, n, left, right, low) (m', n', left', right', low') = (
+  m + m',
+  n + n',
+  Took-trans a a' a'' m m' left left',
+  Took-trans b b' b'' n n' right right',
+  paid_exit setting wi wi' ws ws' found at p 0 (m + n) (m + m' + (n + n')) set run imp spec within (omega (arith, low)) (omega (arith, low')),
+)
+
+pub few_end : (setting : Setting) (wi ws : Walked) (found : List Found) (at p a a' b b' : ℕ) → IsSetting setting wi ws → IsRunOf setting wi ws found at p → at ≤ length found →
+    TookBoth a a' b b' (2 * (at * (setting.inputs + setting.outputs + 1))) → ArePaid setting.mode setting.most_pairs wi ws a a' b b'
+few_end setting wi ws found at p a a' b b' set run within (m, n, left, right, low) =
+    (m, n, left, right, paid_end setting wi ws found at p 0 (m + n) set run within (omega (arith, low)))
 
 -- the way to the end gets shorter
 pub nearer : (setting : Setting) (wi ws : Walked) (found : List Found) (at p : ℕ) → IsRunOf setting wi ws found at p → at < length found → setting.most_pairs - (at + 1) < setting.most_pairs - at
@@ -203,3 +229,28 @@ pub opening_tested : (setting : Setting) (wi ws : Walked) (old new : List Found)
 opening_tested setting wi ws old new f answer imp spec left right from depth some none is tested =
     let (grown, fine, few) = rw (none, is) at tested in
     rw grown (opening_run setting.mode setting.most_pairs wi ws f imp spec left right from depth some fine)
+
+-- ---- the end of a search, said of the walks as they were
+
+pub answer_before : (setting : Setting) (wi wi' ws ws' : Walked) (answer : Answer) → Grows wi wi' → Grows ws ws' → IsAnswer setting wi' ws' answer → IsAnswer setting wi ws answer
+answer_before setting wi wi' ws ws' answer imp spec is = rw (imp.system, imp.limit, spec.system, spec.limit) at is
+
+pub paid_before : (mode : Mode) (pairs : ℕ) (wi wi' ws ws' : Walked) (before after : ℕ) → Grows wi wi' → Grows ws ws' → IsPaid mode pairs wi' ws' before after → IsPaid mode pairs wi ws before after
+paid_before mode pairs wi wi' ws ws' before after imp spec is = rw (imp.system, imp.limit, spec.system, spec.limit) at is
+
+pub few_before : (mode : Mode) (pairs : ℕ) (wi wi' ws ws' : Walked) (a a' b b' : ℕ) → Grows wi wi' → Grows ws ws' → ArePaid mode pairs wi' ws' a a' b b' → ArePaid mode pairs wi ws a a' b b'
+few_before mode pairs wi wi' ws ws' a a' b b' imp spec (m, n, left, right, is) = (m, n, left, right, paid_before mode pairs wi wi' ws ws' 0 (m + n) imp spec is)
+
+-- a search that ended without an answer: the relation of its pairs is there, and they are so many
+pub counted : (setting : Setting) (wi wi' ws ws' : Walked) (found : List Found) → IsSetting setting wi' ws' → IsRunOf setting wi' ws' found (length found) 0 → Grows wi wi' → Grows ws ws' →
+    IsSettled setting.mode (limits_of setting.most_pairs wi ws) wi.system ws.system (Counted (length found))
+counted setting wi wi' ws ws' found set run imp spec =
+    let relation : Relation = record { left = wi'.sets; right = ws'.sets; pairs = map nodes_of found } in (
+      Conforms relation,
+      answer_before setting wi wi' ws ws' (Conforms relation) imp spec (conformance setting wi' ws' found (length found) 0 relation set run (omega arith) refl refl refl),
+      ap (λ (n : ℕ). Counted n) (sym (length-map found nodes_of)),
+    )
+
+pub told : (setting : Setting) (wi wi' ws ws' : Walked) (answer : Answer) (verdict : Verdict) → Grows wi wi' → Grows ws ws' → IsAnswer setting wi' ws' answer → verdict ≡ told_of answer →
+    IsSettled setting.mode (limits_of setting.most_pairs wi ws) wi.system ws.system verdict
+told setting wi wi' ws ws' answer verdict imp spec is e = (answer, answer_before setting wi wi' ws ws' answer imp spec is, e)

@@ -1,8 +1,10 @@
 mod TableLaws
 mod SearchLaws
-mod NextSets
 mod WrongLaws
 mod RunLaws
 mod TestLaws
 mod LookLaws
 mod EndLaws
+pub mod GrowLaws
+pub mod OpeningLaws
+pub mod OnceLaws

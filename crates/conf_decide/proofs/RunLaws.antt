@@ -23,7 +23,7 @@ use Rattle.conf_decide.specs.Decided.{limits_of, left_members, right_members, Is
 use Rattle.conf_decide.specs.Table.{no_found, found_at, nodes_of, HasPair, AreEdges, rows_in}
 use Rattle.conf_decide.specs.Progress.{IsClosed, IsInLists, IsRun, IsUntested}
 use Rattle.conf_decide.proofs.SearchLaws.{all_before, first_push, nothing_before, search_item, search_push}
-use Rattle.conf_decide.proofs.NextSets.{next_exists}
+use Rattle.lts_base.proofs.NextLaws.{next_exists}
 
 -- ---- pairs of nodes as rows
 
@@ -199,7 +199,7 @@ module _ (mode : Mode) (most : ℕ) (wi wi' ws ws' : Walked) (found : List Found
       let some : 0 < 0 = Has-set_some ws.system newest [] (IsSetAfter-next ws.system x (trace_at ts at) right_set [] here.right next) (IsAllowed-has mode ws.system newest allowed) in
       omega (arith, some)
 
-  closed_empty : IsNext wi.system x left_set [] → IsClosed mode wi.system ws.system rows ts at x
+  pub closed_empty : IsNext wi.system x left_set [] → IsClosed mode wi.system ws.system rows ts at x
   closed_empty next item allows has =
       let some : 0 < 0 = Has-set_some wi.system newest [] (IsSetAfter-next wi.system x (trace_at ts at) left_set [] here.left next) has in
       absurd (omega (arith, some))

@@ -1,19 +1,14 @@
 -- The keys of a table, and the traces that lead to its pairs.
-use Rattle.std.proofs.Common.{ℕ, ◌+◌, ◌<◌, ◌≡◌, ◌↔◌, List, [], ◌∷◌, ◌++◌, length, map, get_or, Bool, true, false, cond, Some, None, Option, refl, sym, ap, ◌∙◌, inl, inr, ◌⊎◌, arith}
+use Rattle.std.proofs.Common.{eqb, ℕ, ◌+◌, ◌<◌, ◌≡◌, ◌↔◌, List, [], ◌∷◌, ◌++◌, length, map, get_or, Bool, true, false, cond, Some, None, Option, refl, sym, ap, ◌∙◌, inl, inr, ◌⊎◌, arith}
 use Rattle.std.specs.Prelude.{Contains, IsTrue, Result, Ok, Err, OnOk, OnErr}
 use Rattle.std.specs.Result.{is_ok}
 use Rattle.std.specs.Option.{option_to_list, MatchOption}
-use Rattle.std.specs.declared.cmp.Ordering.{Ordering}
-use Rattle.std.specs.declared.cmp.Ordering.TheVariants.{Less, Equal, Greater}
-use Rattle.std.specs.Ordering.{nat_cmp, is_eq}
-use Rattle.std.specs.BTreeMap.{is_at}
-use Rattle.std.specs.BTreeSet.{BTreeSet, contains, Updates}
-use Rattle.std.proofs.lemmas.Bool.{cases_Bool, cases_lt, false≢true}
-use Rattle.std.proofs.lemmas.Cmp.{nat_cmp_total}
+use Rattle.std.specs.HashSet.{HashSet, contains, Updates}
+use Rattle.std.proofs.lemmas.Bool.{cases_Bool, cases_lt, false≢true, eqb-true}
+use Rattle.std.proofs.lemmas.Cmp.{nat_eq_equiv}
 use Rattle.std.proofs.lemmas.List.{same_from_push, map_push, get_or-map, length-map, length_push, get_or_push, get_or_append_left}
 use Rattle.std.proofs.lemmas.List.Elements.{Contains-push, Contains-push_cases, Contains-append_left}
-use Rattle.std.proofs.lemmas.Map.Lookups.{exact_unsigned}
-use Rattle.std.proofs.lemmas.Map.Views.{btree_set_contains_iff}
+use Rattle.std.proofs.lemmas.Map.Views.{hash_set_contains_iff}
 use Rattle.conf_decide.specs.declared.table.Found.{Found}
 use Rattle.conf_decide.specs.Table.{no_found, found_at, key_of, found_key, AreKeys, HasPair}
 
@@ -42,11 +37,6 @@ either : (b : Bool) → cond b true true ≡ true
 either true = refl
 either false = refl
 
-is_eq-true : (o : Ordering) → is_eq o ≡ true → o ≡ Equal
-is_eq-true Less e = cc
-is_eq-true Equal e = refl
-is_eq-true Greater e = cc
-
 pub on_ok : {T E P : Type 0} (r : Result T E) → is_ok r ≡ true → OnOk r P → P
 on_ok (Ok x) e h = h
 on_ok (Err x) e h = absurd (false≢true e)
@@ -59,11 +49,11 @@ pub popped : (xs ys : List Found) (f : Found) (o : Option Found) (n m : ℕ) (A 
 popped xs ys f (Some g) n m A B e cases some = sym (same_from_push xs ys f g e).0
 popped xs ys f None n m A B e cases some = absurd (omega (arith, cases.0, some))
 
-pub AreKeys-push : (found : List Found) (f : Found) (s n : BTreeSet ℕ) → f.right < 4294967296 → AreKeys found s.keys → Updates nat_cmp s n (found_key f) true → AreKeys (found ++ f ∷ []) n.keys
+pub AreKeys-push : (found : List Found) (f : Found) {S : Type 0} (s n : HashSet ℕ S) → f.right < 4294967296 → AreKeys found s.keys → Updates eqb s n (found_key f) true → AreKeys (found ++ f ∷ []) n.keys
 AreKeys-push found f s n small keys (at, here, others, kept) =
     record {
       small = λ k below. below_push k below;
-      each = λ key has. each key has (cases_Bool (is_at (nat_cmp (found_key f)) key));
+      each = λ key has. each key has (cases_Bool (eqb (found_key f) key));
       all = λ key has. all key (Contains-push_cases (map found_key found) (found_key f) key (rw (map_push found_key found f) at has));
     }
   where
@@ -74,22 +64,22 @@ AreKeys-push found f s n small keys (at, here, others, kept) =
           | inr l ↦ rw (get_or_push found f no_found k (omega (arith, l, rw (length_push found f) at below))) small
         ]
 
-    each : (key : ℕ) → Contains n.keys key → (is_at (nat_cmp (found_key f)) key ≡ true) ⊎ (is_at (nat_cmp (found_key f)) key ≡ false) → Contains (map found_key (found ++ f ∷ [])) key
+    each : (key : ℕ) → Contains n.keys key → (eqb (found_key f) key ≡ true) ⊎ (eqb (found_key f) key ≡ false) → Contains (map found_key (found ++ f ∷ [])) key
     each key has (inl t) =
-        rw (map_push found_key found f, exact_unsigned (found_key f) key (is_eq-true _ t)) (Contains-push (map found_key found) key)
+        rw (map_push found_key found f, eqb-true (found_key f) key t) (Contains-push (map found_key found) key)
     each key has (inr t) =
-        let now : contains nat_cmp n key ≡ true = (btree_set_contains_iff nat_cmp_total exact_unsigned n key).1 has in
-        let before : contains nat_cmp s key ≡ true = sym (others key t) ∙ now in
-        rw (map_push found_key found f) (Contains-append_left _ _ _ (keys.each key ((btree_set_contains_iff nat_cmp_total exact_unsigned s key).0 before)))
+        let now : contains eqb n key ≡ true = (hash_set_contains_iff nat_eq_equiv eqb-true n key).1 has in
+        let before : contains eqb s key ≡ true = sym (others key t) ∙ now in
+        rw (map_push found_key found f) (Contains-append_left _ _ _ (keys.each key ((hash_set_contains_iff nat_eq_equiv eqb-true s key).0 before)))
 
     all : (key : ℕ) → Contains (map found_key found) key ⊎ (found_key f ≡ key) → Contains n.keys key
     all key (inl has) =
-        let before : contains nat_cmp s key ≡ true = (btree_set_contains_iff nat_cmp_total exact_unsigned s key).1 (keys.all key has) in
-        (btree_set_contains_iff nat_cmp_total exact_unsigned n key).0 (at key ∙ rw before (either (is_at (nat_cmp (found_key f)) key)))
-    all key (inr same) = rw (← same) ((btree_set_contains_iff nat_cmp_total exact_unsigned n (found_key f)).0 here)
+        let before : contains eqb s key ≡ true = (hash_set_contains_iff nat_eq_equiv eqb-true s key).1 (keys.all key has) in
+        (hash_set_contains_iff nat_eq_equiv eqb-true n key).0 (at key ∙ rw before (either (eqb (found_key f) key)))
+    all key (inr same) = rw (← same) ((hash_set_contains_iff nat_eq_equiv eqb-true n (found_key f)).0 here)
 
-pub has_iff : (found : List Found) (s : BTreeSet ℕ) (left right key : ℕ) (b : Bool) → AreKeys found s.keys → right < 4294967296 → key ≡ key_of left right → b ≡ contains nat_cmp s key → IsTrue b ↔ HasPair found left right
+pub has_iff : (found : List Found) {S : Type 0} (s : HashSet ℕ S) (left right key : ℕ) (b : Bool) → AreKeys found s.keys → right < 4294967296 → key ≡ key_of left right → b ≡ contains eqb s key → IsTrue b ↔ HasPair found left right
 has_iff found s left right key b keys small e is = (
-  λ t. has_from_key found s.keys left right keys small (rw e at ((btree_set_contains_iff nat_cmp_total exact_unsigned s key).0 (sym is ∙ t))),
-  λ h. is ∙ (btree_set_contains_iff nat_cmp_total exact_unsigned s key).1 (rw e (key_from_has found s.keys left right keys h)),
+  λ t. has_from_key found s.keys left right keys small (rw e at ((hash_set_contains_iff nat_eq_equiv eqb-true s key).0 (sym is ∙ t))),
+  λ h. is ∙ (hash_set_contains_iff nat_eq_equiv eqb-true s key).1 (rw e (key_from_has found s.keys left right keys h)),
 )

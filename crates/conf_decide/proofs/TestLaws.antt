@@ -77,6 +77,7 @@ module _ (mode : Mode) (limits : Limits) (i s : System) (left right : List (List
           un.traces,
           record {
             first = un.first;
+            some = rw rows_count (omega arith);
             within = record { pairs = rw (rows_length left right (found ++ f ∷ [])) few; imp = un.imp; spec = un.spec };
             fine = un.fine;
             last = same;

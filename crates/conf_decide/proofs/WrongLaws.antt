@@ -1,5 +1,5 @@
 -- The least item that one list shows and another doesn't, looked for by number.
-use Rattle.std.proofs.Common.{ℕ, ◌+◌, ◌<◌, ◌≤◌, ◌≡◌, inl, inr, arith}
+use Rattle.std.proofs.Common.{ℕ, ◌+◌, ◌<◌, ◌≤◌, ◌≡◌, inl, inr, refl, arith}
 use Rattle.std.proofs.lemmas.Bool.{cases_lt}
 use Rattle.lts_base.specs.declared.item.Item.{Item}
 use Rattle.lts_base.specs.declared.item.Item.TheVariants.{Input, Output, Delta}
@@ -8,6 +8,7 @@ use Rattle.lts_base.specs.After.{Shows}
 use Rattle.lts_base.specs.Order.{place}
 use Rattle.lts_base.specs.Reached.{Row, IsFine}
 use Rattle.lts_base.proofs.SetLaws.{Shows-item}
+use Rattle.state_sets.specs.Finds.{IsTakenIn, IsLeastFrom}
 use Rattle.walk_core.specs.Walked.{Walked}
 use Rattle.conf_decide.specs.declared.search.Setting.{Setting}
 use Rattle.conf_decide.specs.Progress.{IsFirstWrong, IsSetting}
@@ -57,3 +58,29 @@ pub fine_step : (setting : Setting) (imp spec : Walked) (row : Row) (number : �
     place (setting.inputs + setting.outputs) x ≡ number → (Shows imp.system row.left x → Shows spec.system row.right x) → IsFineBelow imp.system spec.system row number → IsFineBelow imp.system spec.system row (number + 1)
 fine_step setting imp spec row number x set item here now fine =
     fine_next imp.system spec.system row number x set.imp_walk.system (item_imp setting imp spec x set item) (rw (set.imp_inputs, set.imp_outputs) here) now fine
+
+-- a label that the left list doesn't take isn't shown by it
+pub fine_jump : (i s : System) (row : Row) (number next : ℕ) → next ≤ label_count i → ((a : ℕ) → number ≤ a → a < next → IsTakenIn i row.left a → ⊥) → IsFineBelow i s row number → IsFineBelow i s row next
+fine_jump i s row number next high none fine (Input a) less (q, inside, gives) = absurd gives
+fine_jump i s row number next high none fine (Output a) less (q, inside, (over, takes)) = elim (cases_lt a number) [
+  | inl before ↦ fine (Output a) before (q, inside, (over, takes))
+  | inr after ↦ absurd (none a after less (q, inside, takes))
+]
+fine_jump i s row number next high none fine Delta less shows = absurd (omega (arith, less, high))
+
+-- the next label that the left list takes was looked at
+pub fine_more : (setting : Setting) (imp spec : Walked) (row : Row) (number next : ℕ) (x : Item) → IsSetting setting imp spec → ((s : System) → s.inputs ≡ setting.inputs → s.outputs ≡ setting.outputs → IsItemOf s x) →
+    place (setting.inputs + setting.outputs) x ≡ next → IsLeastFrom (IsTakenIn imp.system row.left) number (label_count imp.system) next → (Shows imp.system row.left x → Shows spec.system row.right x) → IsFineBelow imp.system spec.system row number →
+    (next + 1 ≤ setting.inputs + setting.outputs + 1) × IsFineBelow imp.system spec.system row (next + 1)
+fine_more setting imp spec row number next x set item here jump now fine = (
+  omega (arith, jump.high, set.imp_inputs, set.imp_outputs),
+  fine_step setting imp spec row next x set item here now (fine_jump imp.system spec.system row number next jump.high jump.none fine),
+)
+
+-- the next label that the left list takes is at fault
+pub wrong_here : (setting : Setting) (imp spec : Walked) (row : Row) (number next : ℕ) (x : Item) → IsSetting setting imp spec → place (setting.inputs + setting.outputs) x ≡ next →
+    IsLeastFrom (IsTakenIn imp.system row.left) number (label_count imp.system) next → Shows imp.system row.left x → (Shows spec.system row.right x → ⊥) → IsFineBelow imp.system spec.system row number →
+    IsFirstWrong imp.system spec.system row x
+wrong_here setting imp spec row number next x set here jump shown unshown fine =
+    wrong_first imp.system spec.system row next x (rw (set.imp_inputs, set.imp_outputs, set.spec_inputs, set.spec_outputs) refl) (rw (set.imp_inputs, set.imp_outputs) here) shown unshown
+    (fine_jump imp.system spec.system row number next jump.high jump.none fine)

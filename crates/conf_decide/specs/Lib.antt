@@ -1,3 +1,4 @@
+pub mod Told
 pub mod Decided
 pub mod Table
 pub mod Progress

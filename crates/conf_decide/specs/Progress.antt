@@ -1,5 +1,6 @@
--- How far a search by breadth is.
-use Rattle.std.specs.Prelude.{◌≡◌, ℕ, ◌<◌, ◌≤◌, List, [], ◌∷◌, ◌++◌, length, take, All, Option, Some, None, ◌⊎◌}
+-- Private: how far a search by breadth is.
+use Rattle.lts_base.specs.declared.limits.TheConstants.{MOST_PAIRS}
+use Rattle.std.specs.Prelude.{◌≡◌, ℕ, ◌+◌, ◌<◌, ◌≤◌, List, [], ◌∷◌, ◌++◌, length, take, All, Option, Some, None, MatchOption, ◌⊎◌}
 use Rattle.lts_base.specs.declared.item.Item.{Item}
 use Rattle.lts_base.specs.declared.item.Mode.{Mode}
 use Rattle.lts_base.specs.System.{System, label_count, IsItemOf}
@@ -11,12 +12,13 @@ use Rattle.lts_base.specs.Conformance.{IsViolation}
 use Rattle.lts_base.specs.Order.{place, IsAtMost}
 use Rattle.lts_base.specs.Reached.{Row, row_at, trace_at, lefts, rights, distinct, AreFirstPairs, IsReachedBy, IsFine, Limits, IsWithin}
 use Rattle.walk_core.specs.Walked.{Walked, set_at, IsWalk, IsStep, IsFull}
+use Rattle.walk_core.specs.Taken.{Took}
 use Rattle.conf_decide.specs.declared.table.Found.{Found}
 use Rattle.conf_decide.specs.declared.search.Setting.{Setting}
 use Rattle.conf_decide.specs.declared.search.Pace.{Pace}
 use Rattle.conf_decide.specs.declared.search.Pace.TheVariants.{Nothing, Pair, ImpFull, SpecFull}
 use Rattle.conf_decide.specs.declared.answer.Answer.{Answer}
-use Rattle.conf_decide.specs.Decided.{limits_of, left_members, right_members, AreFineBefore, last_trace, IsDecided}
+use Rattle.conf_decide.specs.Decided.{limits_of, left_members, right_members, AreFineBefore, last_trace, IsDecided, ArePaid}
 use Rattle.conf_decide.specs.Table.{AreEdges, nodes_of, rows_in}
 
 -- the item has been looked at from pair m: the search is at the item with number p of pair `at`
@@ -71,8 +73,13 @@ pub record IsUntested (mode : Mode) (limits : Limits) (i s : System) (left right
 -- x is the least item that the left list shows and the right one doesn't
 pub record IsFirstWrong (i s : System) (row : Row) (x : Item) : Type 0 where
   pub shown : Shows i row.left x
-  pub unshown : Shows s row.right x → ⊥
-  pub least : (y : Item) → Shows i row.left y → (Shows s row.right y → ⊥) → place (label_count s) x ≤ place (label_count s) y
+  pub unshown : ¬ Shows s row.right x
+  pub least : (y : Item) → Shows i row.left y → (¬ Shows s row.right y) → place (label_count s) x ≤ place (label_count s) y
+
+-- the least item that the left set shows and the right one doesn't; where there is none, the pair is fine
+abbrev pub IsWrongOrFine : Walked → Walked → ℕ → ℕ → Option Item → Type 0
+IsWrongOrFine imp spec left right wrong = MatchOption wrong (IsFine imp.system spec.system (row_of imp.sets spec.sets (left, right)))
+    (IsFirstWrong imp.system spec.system (row_of imp.sets spec.sets (left, right)))
 
 -- both walks are sound and have the alphabet that was told, and the limit of pairs is one that may be asked for
 pub record IsSetting (setting : Setting) (imp spec : Walked) : Type 0 where
@@ -83,7 +90,7 @@ pub record IsSetting (setting : Setting) (imp spec : Walked) : Type 0 where
   pub spec_inputs : spec.system.inputs ≡ setting.inputs
   pub spec_outputs : spec.system.outputs ≡ setting.outputs
   pub some : 0 < setting.most_pairs
-  pub few : setting.most_pairs ≤ 200000
+  pub few : setting.most_pairs ≤ MOST_PAIRS
 
 -- the search by two walks has come to the item with number p of pair `at`
 abbrev pub IsRunOf : Setting → Walked → Walked → List Found → ℕ → ℕ → Type 0
@@ -99,7 +106,8 @@ IsAnswer setting imp spec answer = IsDecided setting.mode (limits_of setting.mos
 
 -- the test of a new pair: it was added, is fine and within the limit of pairs; or the answer is right
 abbrev pub IsTested : Setting → Walked → Walked → List Found → Found → List Found → Option Answer → Type 0
-IsTested setting imp spec old f new None = (new ≡ old ++ f ∷ []) × IsFine imp.system spec.system (row_of imp.sets spec.sets (nodes_of f)) × (length new ≤ setting.most_pairs)
+IsTested setting imp spec old f new None = (new ≡ old ++ f ∷ []) ×
+    IsFine imp.system spec.system (row_of imp.sets spec.sets (nodes_of f)) × (length new ≤ setting.most_pairs)
 IsTested setting imp spec old f new (Some answer) = IsAnswer setting imp spec answer
 
 -- a part of the search: it has come so far; or the answer is right
@@ -114,3 +122,12 @@ IsPace imp imp' spec spec' left right x Nothing =
 IsPace imp imp' spec spec' left right x (Pair l r) = IsStep imp imp' left x (Some l) × IsStep spec spec' right x (Some r)
 IsPace imp imp' spec spec' left right x (ImpFull reached) = IsFull imp left x reached
 IsPace imp imp' spec spec' left right x (SpecFull reached) = (n : ℕ) × IsStep imp imp' left x (Some n) × IsFull spec right x reached
+
+-- by their own counts before and after, the two walks together took at most so many steps
+abbrev pub TookBoth : ℕ → ℕ → ℕ → ℕ → ℕ → Type 0
+TookBoth imp imp' spec spec' most = (m n : ℕ) × Took imp imp' m × Took spec spec' n × (m + n ≤ most)
+
+-- the steps that the two walks together took, by their own counts, are few enough for the setting
+abbrev pub ArePaidIn : Setting → Walked → Walked → ℕ → ℕ → ℕ → ℕ → Type 0
+ArePaidIn setting imp spec imp_before imp_after spec_before spec_after =
+    ArePaid setting.mode setting.most_pairs imp spec imp_before imp_after spec_before spec_after

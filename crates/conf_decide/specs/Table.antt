@@ -1,4 +1,4 @@
--- The pairs that a search has found, as its table holds them.
+-- Private: the pairs that a search has found, as its table holds them.
 use Rattle.std.specs.Prelude.{◌≡◌, ℕ, ◌+◌, ◌*◌, ◌<◌, ◌≤◌, List, [], ◌∷◌, ◌++◌, length, map, Contains, ◌⊎◌, slice_index_or as get_or}
 use Rattle.lts_base.specs.declared.item.Item.{Item}
 use Rattle.lts_base.specs.declared.item.Item.TheVariants.{Delta}

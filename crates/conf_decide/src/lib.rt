@@ -9,4 +9,4 @@ mod relation;
 mod search;
 mod table;
 
-pub use answer::{Answer, What};
+pub use answer::{Answer, Verdict, What, verdict_of};

@@ -1,8 +1,7 @@
 //! The search by breadth: one item of one pair, all items of one pair.
 ghost use Rattle.std.specs.Prelude.{◌≡◌, ℕ, ◌+◌, ◌*◌, ◌<◌, ◌≤◌, List, length, Option, IfOk};
-ghost use Rattle.walk_core.specs.Walked.{Walked};
-ghost use Rattle.conf_decide.specs.Decided.{IsKept};
-ghost use Rattle.conf_decide.specs.Progress.{IsSetting, IsRunOf, IsOutcome};
+ghost use Rattle.walk_core.specs.Walked.{Walked, Grows};
+ghost use Rattle.conf_decide.specs.Progress.{IsSetting, IsRunOf, IsOutcome, TookBoth};
 
 use crate::answer::{Answer, What};
 use crate::search::{Pace, Setting, add, item_at, step_both};
@@ -28,11 +27,12 @@ fn look<A: Walk, B: Walk, L: Ledger>(
     requires number { number ≤ setting.inputs + setting.outputs }
     requires run { IsRunOf setting (A.walked imp.old) (B.walked spec.old) table.old at number }
     ensures setting { IsSetting setting (A.walked imp.new) (B.walked spec.new) }
-    ensures imp { IsKept (A.walked imp.old) (A.walked imp.new) }
-    ensures spec { IsKept (B.walked spec.old) (B.walked spec.new) }
+    ensures imp { Grows (A.walked imp.old) (A.walked imp.new) }
+    ensures spec { Grows (B.walked spec.old) (B.walked spec.new) }
     ensures outcome { IfOk result (IsOutcome setting (A.walked imp.new) (B.walked spec.new) table.new at (number + 1)) }
     ensures table { length table.old ≤ length table.new }
     ensures steps { steps.new ≤ steps.old + 2 }
+    ensures taken { TookBoth (A.taken imp.old) (A.taken imp.new) (B.taken spec.old) (B.taken spec.new) 2 }
 {
     let item = item_at(setting.inputs, setting.outputs, number);
     let from = table.at(at);
@@ -75,6 +75,30 @@ fn look<A: Walk, B: Walk, L: Ledger>(
     }
 }
 
+/// The number of the next item of a pair, from `number` on, that is worth a look: a label that isn't
+/// taken in both sets leads nowhere.
+fn next_item<A: Walk, B: Walk>(
+    imp: &A,
+    spec: &B,
+    setting: Setting,
+    table: &Table,
+    at: usize,
+    number: u32,
+) -> u32
+    requires setting { IsSetting setting (A.walked imp.now) (B.walked spec.now) }
+    requires at { at < length table.now }
+    requires number { number ≤ setting.inputs + setting.outputs }
+    requires run { IsRunOf setting (A.walked imp.now) (B.walked spec.now) table.now at number }
+    ensures low { number ≤ result }
+    ensures high { result ≤ setting.inputs + setting.outputs }
+    ensures run { IsRunOf setting (A.walked imp.now) (B.walked spec.now) table.now at result }
+{
+    // the implementation's set is seldom the larger one, so it is asked first
+    let from = table.at(at);
+    let taken = imp.label_from(Node(from.left), number);
+    spec.label_from(Node(from.right), taken)
+}
+
 /// Looks at all items of one pair.
 pub fn look_all<A: Walk, B: Walk, L: Ledger>(
     alloc: Global,
@@ -89,16 +113,20 @@ pub fn look_all<A: Walk, B: Walk, L: Ledger>(
     requires at { at < length table.old }
     requires run { IsRunOf setting (A.walked imp.old) (B.walked spec.old) table.old at 0 }
     ensures setting { IsSetting setting (A.walked imp.new) (B.walked spec.new) }
-    ensures imp { IsKept (A.walked imp.old) (A.walked imp.new) }
-    ensures spec { IsKept (B.walked spec.old) (B.walked spec.new) }
+    ensures imp { Grows (A.walked imp.old) (A.walked imp.new) }
+    ensures spec { Grows (B.walked spec.old) (B.walked spec.new) }
     ensures outcome { IfOk result (IsOutcome setting (A.walked imp.new) (B.walked spec.new) table.new (at + 1) 0) }
     ensures table { length table.old ≤ length table.new }
     ensures steps { steps.new ≤ steps.old + 2 * (setting.inputs + setting.outputs + 1) }
+    ensures taken { TookBoth (A.taken imp.old) (A.taken imp.new) (B.taken spec.old) (B.taken spec.new) (2 * (setting.inputs + setting.outputs + 1)) }
 {
-    'items: for number in 0..setting.inputs + setting.outputs + 1 {
-        if let Some(answer) = look(alloc, imp, spec, setting, table, at, number, steps)? {
+    let mut number = 0;
+    'items: while number <= setting.inputs + setting.outputs {
+        let next = next_item(imp, spec, setting, table, at, number);
+        if let Some(answer) = look(alloc, imp, spec, setting, table, at, next, steps)? {
             return Ok(Some(answer));
         }
+        number = next + 1;
     }
     Ok(None)
 }

@@ -1,4 +1,5 @@
 //! What one look at an item needs: the items by number, one step of both walks, the test of a new pair.
+ghost use Rattle.lts_base.specs.declared.limits.TheConstants.{MOST_LABELS};
 ghost use Rattle.std.specs.Prelude.{◌≡◌, ℕ, ◌+◌, ◌<◌, ◌≤◌, List, [], ◌∷◌, ◌++◌, length, Option, IfOk, MatchOption};
 ghost use Rattle.lts_base.specs.System.{System, IsItemOf};
 ghost use Rattle.lts_base.specs.Order.{place};
@@ -6,7 +7,7 @@ ghost use Rattle.lts_base.specs.Reached.{IsFine};
 ghost use Rattle.lts_base.specs.Related.{row_of};
 ghost use Rattle.walk_core.specs.Walked.{Walked, IsWalk, Grows};
 ghost use Rattle.conf_decide.specs.Table.{found_at, AreEarlier};
-ghost use Rattle.conf_decide.specs.Progress.{IsFirstWrong, IsSetting, IsRunOf, IsNewest, IsTested, IsOutcome, IsAnswer, IsPace};
+ghost use Rattle.conf_decide.specs.Progress.{IsFirstWrong, IsSetting, IsRunOf, IsNewest, IsTested, IsOutcome, IsAnswer, IsPace, IsWrongOrFine, TookBoth};
 
 use crate::answer::{Answer, What};
 use crate::table::{Found, Table};
@@ -43,7 +44,7 @@ pub enum Pace {
 
 /// The item with this number: the inputs, the outputs, `delta`.
 pub fn item_at(inputs: u32, outputs: u32, number: u32) -> Item
-    requires few { inputs + outputs ≤ 1024 }
+    requires few { inputs + outputs ≤ MOST_LABELS }
     requires number { number ≤ inputs + outputs }
     ensures place { place (inputs + outputs) result ≡ number }
     ensures item { (s : System) → s.inputs ≡ inputs → s.outputs ≡ outputs → IsItemOf s result }
@@ -68,15 +69,18 @@ fn first_wrong<A: Walk, B: Walk>(
     requires setting { IsSetting setting (A.walked imp.now) (B.walked spec.now) }
     requires left { left < length (A.walked imp.now).sets }
     requires right { right < length (B.walked spec.now).sets }
-    ensures { MatchOption result (IsFine (A.walked imp.now).system (B.walked spec.now).system (row_of (A.walked imp.now).sets (B.walked spec.now).sets (left, right))) (IsFirstWrong (A.walked imp.now).system (B.walked spec.now).system (row_of (A.walked imp.now).sets (B.walked spec.now).sets (left, right))) }
+    ensures { IsWrongOrFine (A.walked imp.now) (B.walked spec.now) left right result }
 {
-    'items: for number in setting.inputs..setting.inputs + setting.outputs + 1 {
-        let item = item_at(setting.inputs, setting.outputs, number);
+    let mut number = setting.inputs;
+    'items: while number <= setting.inputs + setting.outputs {
+        let next = imp.label_from(Node(left), number);
+        let item = item_at(setting.inputs, setting.outputs, next);
         if imp.shows(Node(left), item) {
             if !spec.shows(Node(right), item) {
                 return Some(item);
             }
         }
+        number = next + 1;
     }
     None
 }
@@ -102,6 +106,7 @@ pub fn step_both<A: Walk, B: Walk, L: Ledger>(
     ensures spec { Grows (B.walked spec.old) (B.walked spec.new) }
     ensures pace { IfOk result (IsPace (A.walked imp.old) (A.walked imp.new) (B.walked spec.old) (B.walked spec.new) left right item) }
     ensures steps { steps.new ≤ steps.old + 2 }
+    ensures taken { TookBoth (A.taken imp.old) (A.taken imp.new) (B.taken spec.old) (B.taken spec.new) 2 }
 {
     let left = match imp.step(Node(left), item, steps) {
         Ok(Some(node)) => node.0,

@@ -7,7 +7,7 @@ ghost use Rattle.conf_decide.specs.Table.{no_found, HasPair, key_of, AreEarlier,
 
 use lts_base::{Item, Memory, Trace};
 use std::alloc::{AllocError, Global};
-use std::collections::BTreeSet;
+use std::collections::HashSet;
 use std::marker::Model;
 
 /// A pair of nodes, one of each walk, and how it was found.
@@ -30,7 +30,7 @@ pub struct Found {
 pub struct Table {
     found: Vec<Found>,
     // the two nodes of each pair as one number, so that a pair is looked up without a scan
-    keys: BTreeSet<u64>,
+    keys: HashSet<u64>,
 }
 
 impl Model for Table {
@@ -59,7 +59,7 @@ impl Table {
     {
         Table {
             found: Vec::new(alloc),
-            keys: BTreeSet::new(alloc),
+            keys: HashSet::new(alloc),
         }
     }
 

@@ -1,3 +1,4 @@
+-- Promise: what files in memory hold.
 use Rattle.std.specs.Prelude.{ℕ, List, [], ◌∷◌, Option, None, Some, bytes_eq, if◌then◌else◌}
 use Rattle.edge_io.specs.declared.content.NamedText.{NamedText}
 

@@ -1,9 +1,14 @@
-use Rattle.std.specs.Prelude.{ℕ, ◌+◌, min, Bool, ◌||◌, ◌==◌, nat_lt, if◌then◌else◌, List, ◌++◌, length, take}
+-- Promise: how files and a sink in memory answer, and which of their calls fail.
+use Rattle.std.specs.Prelude.{ℕ, ◌+◌, min, Bool, ◌||◌, ◌==◌, nat_lt, if◌then◌else◌, List, [], ◌++◌, length, take, Some, unwrap_or}
 use Rattle.std.specs.List.{list_any}
 use Rattle.std.specs.Option.{is_none}
 use Rattle.edge_io.specs.declared.content.NamedText.{NamedText}
 use Rattle.edge_io.specs.Contents.{content_of}
-use Rattle.edge_io.specs.Outside.{counted}
+use Rattle.edge_io.specs.Outside.{ToldFiles, counted}
+
+-- what files tell that never fail: a name that doesn't stand here is empty
+abbrev pub sure_told : List NamedText → ToldFiles
+sure_told texts = record { content = λ name. Some (unwrap_or (content_of texts name) []); faults = λ _. 0 }
 
 -- the call that comes after so many calls is to fail, by its number
 abbrev pub is_chosen : List ℕ → ℕ → Bool

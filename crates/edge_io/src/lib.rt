@@ -12,8 +12,6 @@ pub mod memory_sink;
 pub mod put;
 pub mod sink;
 pub mod sure;
-#[cfg(test)]
-mod tests;
 
 pub use content::{Contents, NamedText, Numbers};
 pub use failed::Failed;

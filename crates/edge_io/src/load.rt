@@ -1,7 +1,7 @@
 //! A whole file, up to a number of bytes.
-ghost use Rattle.std.specs.Prelude.{◌≡◌, ℕ, ◌<◌, ◌≤◌, List, length, IfSome, IfOk, IsErrOf};
+ghost use Rattle.std.specs.Prelude.{◌≡◌, ◌<◌, ◌≤◌, length, IfSome, IfOk, IsErrOf};
 ghost use Rattle.edge_io.specs.declared.load.LoadError.TheVariants.{Failed, Memory};
-ghost use Rattle.edge_io.specs.Outside.{Rose};
+ghost use Rattle.edge_io.specs.Outside.{KeepsFiles, FailsAt};
 
 use crate::failed::Failed;
 use crate::files::Files;
@@ -45,12 +45,11 @@ pub fn load_all<F: Files>(
     name: &str,
     most: u64,
 ) -> Result<Text, LoadError>
-    ensures whole { IfOk result (λ text. IfSome (F.content files.old name.now) (λ c. text ≡ c)) }
+    ensures whole { IfOk result (λ text. IfSome ((F.told files.old).content name.now) (λ c. text ≡ c)) }
     ensures short { IfOk result (λ text. length text ≤ most) }
-    ensures long { IsErrOf result LoadError.TooLong → IfSome (F.content files.old name.now) (λ c. most < length c) }
-    ensures failed { IsErrOf result LoadError.Failed → Rose (F.faults files.old name.now) (F.faults files.new name.now) }
-    ensures same { (other : List ℕ) → F.content files.new other ≡ F.content files.old other }
-    ensures later { (other : List ℕ) → F.faults files.old other ≤ F.faults files.new other }
+    ensures long { IsErrOf result LoadError.TooLong → IfSome ((F.told files.old).content name.now) (λ c. most < length c) }
+    ensures failed { IsErrOf result LoadError.Failed → FailsAt (F.told files.old) (F.told files.new) name.now }
+    ensures keeps { KeepsFiles (F.told files.old) (F.told files.new) }
 {
     let mut piece = vec![in alloc; 0u8; PIECE]?;
     let content = join_pieces(alloc, files, name, most, &mut piece)?;
@@ -66,12 +65,11 @@ fn join_pieces<F: Files>(
     piece: &mut [u8],
 ) -> Result<Vec<u8>, LoadError>
     requires { 0 < length piece.old }
-    ensures whole { IfOk result (λ text. IfSome (F.content files.old name.now) (λ c. text.items ≡ c)) }
+    ensures whole { IfOk result (λ text. IfSome ((F.told files.old).content name.now) (λ c. text.items ≡ c)) }
     ensures short { IfOk result (λ text. length text.items ≤ most) }
-    ensures long { IsErrOf result LoadError.TooLong → IfSome (F.content files.old name.now) (λ c. most < length c) }
-    ensures failed { IsErrOf result LoadError.Failed → Rose (F.faults files.old name.now) (F.faults files.new name.now) }
-    ensures same { (other : List ℕ) → F.content files.new other ≡ F.content files.old other }
-    ensures later { (other : List ℕ) → F.faults files.old other ≤ F.faults files.new other }
+    ensures long { IsErrOf result LoadError.TooLong → IfSome ((F.told files.old).content name.now) (λ c. most < length c) }
+    ensures failed { IsErrOf result LoadError.Failed → FailsAt (F.told files.old) (F.told files.new) name.now }
+    ensures keeps { KeepsFiles (F.told files.old) (F.told files.new) }
 {
     let mut content = Vec::new(alloc);
     loop {

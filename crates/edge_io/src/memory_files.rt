@@ -1,8 +1,8 @@
 //! Files in memory, of which chosen reads fail.
-ghost use Rattle.std.specs.Prelude.{◌≡◌, ℕ, ◌<◌, ◌≤◌, List, length, IfOk, IfSome, is_err, option_copied};
+ghost use Rattle.std.specs.Prelude.{◌≡◌, ◌<◌, ◌≤◌, length, IfOk, IfSome, is_err, option_copied};
 ghost use Rattle.edge_io.specs.Contents.{content_of};
 ghost use Rattle.edge_io.specs.InMemory.{read_fails, after_read};
-ghost use Rattle.edge_io.specs.Outside.{Rose, GivesAt};
+ghost use Rattle.edge_io.specs.Outside.{GivesAt};
 
 use crate::content::{Contents, NamedText, Numbers};
 use crate::failed::Failed;
@@ -31,8 +31,7 @@ impl MemFiles {
     /// names.
     pub fn new(contents: Contents, fail_reads: Numbers) -> MemFiles
         ensures made { result ≡ record { contents = contents; fail_reads = fail_reads; reads = 0; faults = 0 } }
-        ensures content { (name : List ℕ) → ⟦<MemFiles as Files>⟧.content result name ≡ content_of contents name }
-        ensures faults { (name : List ℕ) → ⟦<MemFiles as Files>⟧.faults result name ≡ 0 }
+        ensures told { ⟦<MemFiles as Files>⟧.told result ≡ record { content = content_of contents; faults = λ _. 0 } }
     {
         MemFiles {
             contents,
@@ -41,12 +40,17 @@ impl MemFiles {
             faults: 0,
         }
     }
+
+    /// How many reads there were, those that failed among them.
+    pub fn reads(&self) -> u64
+        ensures { result ≡ self.now.reads }
+    {
+        self.reads
+    }
 }
 
 impl Files for MemFiles {
-    ghost content = { λ f name. content_of f.contents name };
-
-    ghost faults = { λ f _. f.faults };
+    ghost told = { λ f. record { content = content_of f.contents; faults = λ _. f.faults } };
 
     fn read_at(&mut self, name: &str, at: u64, buf: &mut [u8]) -> Result<usize, Failed>
         requires room { 0 < length buf.old }

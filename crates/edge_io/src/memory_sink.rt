@@ -1,5 +1,5 @@
 //! A sink in memory, of which chosen writes fail.
-ghost use Rattle.std.specs.Prelude.{◌≡◌, ℕ, ◌<◌, ◌≤◌, List, [], length, IfOk, Some, is_err};
+ghost use Rattle.std.specs.Prelude.{◌≡◌, ◌<◌, ◌≤◌, [], length, IfOk, Some, is_err};
 ghost use Rattle.edge_io.specs.InMemory.{part_of, write_fails, after_write};
 
 use crate::content::Numbers;
@@ -37,8 +37,7 @@ impl MemSink {
     pub fn new(alloc: Global, room: u64, most: u32, fail_writes: Numbers) -> Result<MemSink, Memory>
         requires { 1 ≤ most }
         ensures made { IfOk result (λ sink. sink ≡ record { written = []; room = room; most = most; fail_writes = fail_writes; writes = 0; faults = 0 }) }
-        ensures written { IfOk result (λ sink. ⟦<MemSink as Sink>⟧.written sink ≡ Some []) }
-        ensures faults { IfOk result (λ sink. ⟦<MemSink as Sink>⟧.faults sink ≡ 0) }
+        ensures told { IfOk result (λ sink. ⟦<MemSink as Sink>⟧.told sink ≡ record { written = Some []; faults = 0 }) }
     {
         let written = Vec::with_capacity(alloc, room as usize)?;
         Ok(MemSink {
@@ -60,9 +59,7 @@ impl MemSink {
 }
 
 impl Sink for MemSink {
-    ghost written = { λ s. Some s.written };
-
-    ghost faults = { λ s. s.faults };
+    ghost told = { λ s. record { written = Some s.written; faults = s.faults } };
 
     fn write(&mut self, piece: &[u8]) -> Result<usize, Failed>
         ensures count { IfOk result (λ n. n ≡ part_of self.old piece.now) }

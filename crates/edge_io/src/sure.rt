@@ -1,6 +1,6 @@
 //! Files and a sink that never fail.
-ghost use Rattle.std.specs.Prelude.{◌≡◌, ℕ, List, [], length, None, Some, Ok, unwrap_or};
-ghost use Rattle.edge_io.specs.Contents.{content_of};
+ghost use Rattle.std.specs.Prelude.{◌≡◌, length, None, Ok};
+ghost use Rattle.edge_io.specs.InMemory.{sure_told};
 
 use crate::content::Contents;
 use crate::failed::Failed;
@@ -17,17 +17,14 @@ pub struct SureFiles {
 impl SureFiles {
     /// Of two equal names the first counts.
     pub fn new(contents: Contents) -> SureFiles
-        ensures content { (name : List ℕ) → ⟦<SureFiles as Files>⟧.content result name ≡ Some (unwrap_or (content_of contents name) []) }
-        ensures faults { (name : List ℕ) → ⟦<SureFiles as Files>⟧.faults result name ≡ 0 }
+        ensures told { ⟦<SureFiles as Files>⟧.told result ≡ sure_told contents }
     {
         SureFiles { contents }
     }
 }
 
 impl Files for SureFiles {
-    ghost content = { λ f name. Some (unwrap_or (content_of f.contents name) []) };
-
-    ghost faults = { λ _ _. 0 };
+    ghost told = { λ f. sure_told f.contents };
 
     fn read_at(&mut self, name: &str, at: u64, buf: &mut [u8]) -> Result<usize, Failed> {
         match find(self.contents.as_slice(), name) {
@@ -44,17 +41,14 @@ pub struct SureSink {}
 impl SureSink {
     /// A sink that tells nothing of what is written.
     pub fn new() -> SureSink
-        ensures written { ⟦<SureSink as Sink>⟧.written result ≡ None }
-        ensures faults { ⟦<SureSink as Sink>⟧.faults result ≡ 0 }
+        ensures told { ⟦<SureSink as Sink>⟧.told result ≡ record { written = None; faults = 0 } }
     {
         SureSink {}
     }
 }
 
 impl Sink for SureSink {
-    ghost written = { λ _. None };
-
-    ghost faults = { λ _. 0 };
+    ghost told = { λ _. record { written = None; faults = 0 } };
 
     fn write(&mut self, piece: &[u8]) -> Result<usize, Failed>
         ensures whole { result ≡ Ok (length piece.now) }

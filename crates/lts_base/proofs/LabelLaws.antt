@@ -1,7 +1,6 @@
 -- Texts in the order of their bytes, and the search for one.
-use Rattle.std.proofs.Common.{◌≡◌, ℕ, ◌+◌, ◌<◌, List, [], ◌∷◌, length, get_or, take, drop, Contains, Bool, true, false, ◌||◌, refl, sym, ◌∙◌, ap, subst, arith, inl, inr, add-one}
+use Rattle.std.proofs.Common.{◌≡◌, ℕ, ◌+◌, ◌<◌, List, [], length, get_or, take, drop, Contains, true, false, refl, sym, ◌∙◌, ap, subst, arith, inl, inr}
 use Rattle.std.specs.Prelude.{Result, Ok, Err, MatchResult}
-use Rattle.std.specs.List.{list_any}
 use Rattle.std.specs.List.Sorted.{IsBinarySearchResult, IsSearchInRange}
 use Rattle.std.specs.Ordering.{nat_cmp, is_eq, is_lt, ordering_reverse}
 use Rattle.std.specs.Cmp.Lexicographic.{slice_cmp}
@@ -14,7 +13,6 @@ use Rattle.std.proofs.lemmas.Slice.Eq.{bytes_eq-Decides}
 use Rattle.std.proofs.lemmas.Map.Text.{is_eq-slice_cmp}
 use Rattle.std.proofs.lemmas.Cmp.{nat_list_cmp_total}
 use Rattle.std.proofs.lemmas.Bool.{cases_lt}
-use Rattle.std.proofs.Math.Seq.{drop-cons}
 use Rattle.lts_base.specs.Alphabet.{AreRising, text_at}
 
 pub equal_from_is_eq : (o : Ordering) → is_eq o ≡ true → o ≡ Equal
@@ -33,7 +31,8 @@ equal_to_itself a = equal_from_is_eq (slice_cmp nat_cmp a a) (is_eq-slice_cmp a 
 pub less_apart : (a b : List ℕ) → slice_cmp nat_cmp a b ≡ Less → a ≡ b → ⊥
 less_apart a b less same = let e : slice_cmp nat_cmp a b ≡ Equal = subst (λ (z : List ℕ). slice_cmp nat_cmp a z ≡ Equal) same (equal_to_itself a) in cc
 
-not_below : (a b : List ℕ) → slice_cmp nat_cmp a b ≡ Less → is_lt (slice_cmp nat_cmp b a) ≡ false
+-- what is less isn't greater
+pub not_below : (a b : List ℕ) → slice_cmp nat_cmp a b ≡ Less → is_lt (slice_cmp nat_cmp b a) ≡ false
 not_below a b less = let e : slice_cmp nat_cmp b a ≡ Greater = nat_list_cmp_total.antisymm b a ∙ ap ordering_reverse less in ap is_lt e
 
 -- what a binary search finds among rising texts
@@ -59,18 +58,3 @@ searched_texts texts text (Err i) range h rising =
 pub Contains-halves : {X : Type 0} (xs : List X) (n : ℕ) (x : X) → (Contains (take n xs) x → ⊥) → (Contains (drop n xs) x → ⊥) → Contains xs x → ⊥
 Contains-halves xs n x front back has =
     elim (Contains-append_cases (take n xs) (drop n xs) x (rw take-append-drop has)) [ inl h ↦ front h | inr h ↦ back h ]
-
--- what the first elements don't settle, the others do
-pub list_any-next : {X : Type 0} (p : X → Bool) (xs : List X) (i : ℕ) (d : X) → i < length xs → p (get_or xs i d) ≡ false →
-    list_any p (drop i xs) ≡ list_any p xs → list_any p (drop (i + 1) xs) ≡ list_any p xs
-list_any-next p xs i d below fails h =
-    let e : drop i xs ≡ get_or xs i d ∷ drop (i + 1) xs = drop-cons xs i d below ∙ ap (λ n. get_or xs i d ∷ drop n xs) (sym (add-one i)) in
-    let f : list_any p (drop i xs) ≡ (p (get_or xs i d) || list_any p (drop (i + 1) xs)) = ap (list_any p) e in
-    sym (rw fails at f) ∙ h
-
-pub list_any-here : {X : Type 0} (p : X → Bool) (xs : List X) (i : ℕ) (d : X) → i < length xs → p (get_or xs i d) ≡ true →
-    list_any p (drop i xs) ≡ list_any p xs → list_any p xs ≡ true
-list_any-here p xs i d below passes h =
-    let e : drop i xs ≡ get_or xs i d ∷ drop (i + 1) xs = drop-cons xs i d below ∙ ap (λ n. get_or xs i d ∷ drop n xs) (sym (add-one i)) in
-    let f : list_any p (drop i xs) ≡ (p (get_or xs i d) || list_any p (drop (i + 1) xs)) = ap (list_any p) e in
-    sym h ∙ rw passes at f

@@ -6,7 +6,17 @@ pub mod SetLaws
 pub mod DistinctLaws
 pub mod AllowedLaws
 pub mod LabelLaws
+pub mod ShownLaws
+pub mod FlagLaws
+pub mod PackedLaws
 pub mod SortingLaws
 pub mod UniqueLaws
 pub mod SortedLaws
 pub mod PermutedLaws
+pub mod TauLaws
+pub mod DescentLaws
+pub mod DescentSteps
+pub mod DescentEnds
+pub mod NextLaws
+pub mod SplitOnce
+pub mod RestLaws

@@ -14,7 +14,7 @@ use Rattle.std.proofs.lemmas.Bool.{ltb-true, cases_lt, cases_Bool}
 use Rattle.lts_base.specs.declared.action.Act.TheVariants.{Tau, Label}
 use Rattle.lts_base.specs.declared.action.Act.{Act}
 use Rattle.lts_base.specs.declared.action.Move.{Move}
-use Rattle.lts_base.specs.System.{System, leaves, AreMovesOf, IsQuiet, IsMoveOf}
+use Rattle.lts_base.specs.System.{System, leaves, AreMovesOf, IsStable, GivesNoOutput, IsMoveOf}
 use Rattle.lts_base.specs.Built.{AreOffsets, AreByState}
 
 pub filter_none : {X : Type 0} (p : X → Bool) (xs : List X) → All (λ x. p x ≡ false) xs → filter p xs ≡ []
@@ -151,7 +151,7 @@ abbrev pub IsInputAct : ℕ → Act → Type 0
 IsInputAct inputs Tau = ⊥
 IsInputAct inputs (Label a) = a < inputs
 
-pub quiet_from_moves : (s : System) (p : ℕ) (ms : List Move) → AreMovesOf s p ms → ((k : ℕ) (d : Move) → k < length ms → IsInputAct s.inputs (get_or ms k d).act) → IsQuiet s p
+pub quiet_from_moves : (s : System) (p : ℕ) (ms : List Move) → AreMovesOf s p ms → ((k : ℕ) (d : Move) → k < length ms → IsInputAct s.inputs (get_or ms k d).act) → IsStable s p × GivesNoOutput s p
 quiet_from_moves s p ms these inputs =
     let one : (m : Move) → m.from ≡ p → Contains s.moves m → IsInputAct s.inputs m.act =
     λ m e has. All-contains (λ (m' : Move). IsInputAct s.inputs m'.act) ms m inputs (these.all m e has) in (
@@ -162,12 +162,12 @@ quiet_from_moves s p ms these inputs =
 same_move : (m : Move) (p : ℕ) (act : Act) → m.from ≡ p → m.act ≡ act → m ≡ record { from = p; act = act; to = m.to }
 same_move m p act e f = let F : ℕ → Act → Move = λ a b. record { from = a; act = b; to = m.to } in ap₂ F e f
 
-pub loud_from_tau : (s : System) (p : ℕ) (ms : List Move) (i : ℕ) (d : Move) → AreMovesOf s p ms → i < length ms → (get_or ms i d).act ≡ Tau → IsQuiet s p → ⊥
+pub loud_from_tau : (s : System) (p : ℕ) (ms : List Move) (i : ℕ) (d : Move) → AreMovesOf s p ms → i < length ms → (get_or ms i d).act ≡ Tau → ¬ (IsStable s p × GivesNoOutput s p)
 loud_from_tau s p ms i d these below is_tau quiet =
     let each = these.each i d below in
     quiet.0 (get_or ms i d).to (subst (λ (m : Move). Contains s.moves m) (same_move (get_or ms i d) p Tau each.0 is_tau) each.1)
 
-pub loud_from_output : (s : System) (p : ℕ) (ms : List Move) (i : ℕ) (d : Move) (a : ℕ) → AreMovesOf s p ms → i < length ms → (get_or ms i d).act ≡ Label a → s.inputs ≤ a → IsQuiet s p → ⊥
+pub loud_from_output : (s : System) (p : ℕ) (ms : List Move) (i : ℕ) (d : Move) (a : ℕ) → AreMovesOf s p ms → i < length ms → (get_or ms i d).act ≡ Label a → s.inputs ≤ a → ¬ (IsStable s p × GivesNoOutput s p)
 loud_from_output s p ms i d a these below is_label high quiet =
     let each = these.each i d below in
     quiet.1 a high ((get_or ms i d).to, subst (λ (m : Move). Contains s.moves m) (same_move (get_or ms i d) p (Label a) each.0 is_label) each.1)

@@ -1,37 +1,42 @@
 -- From raw systems to systems over one alphabet: sorting labels, and renumbering moves.
-use Rattle.std.proofs.Common.{◌≡◌, ℕ, ◌+◌, ◌-◌, ◌<◌, ◌≤◌, List, [], ◌∷◌, ◌++◌, length, get_or, take, drop, map, All, Contains, Bool, true, false, cond, refl, sym, ◌∙◌, ap, subst, arith, inl, inr, ◌⊎◌, Option, Some, None, IsSome, nat_lt, add-zero}
+use Rattle.std.proofs.Common.{◌≡◌, ℕ, ◌+◌, ◌-◌, ◌<◌, ◌≤◌, List, [], ◌∷◌, ◌++◌, length, get_or, take, drop, map, All, Contains, Bool, true, false, not, refl, sym, ◌∙◌, ap, subst, arith, inl, inr, ◌⊎◌, Option, Some, None, IsSome, nat_lt, add-zero}
 use Rattle.std.specs.List.{filter, dedup}
 use Rattle.std.specs.List.Sorted.{IsPermutation, IsSorted}
 use Rattle.std.specs.Ordering.{nat_cmp}
 use Rattle.std.specs.Cmp.{IsEquivalence}
 use Rattle.std.specs.Cmp.Lexicographic.{slice_cmp}
+use Rattle.std.specs.Borrow.{Bor}
 use Rattle.std.specs.Str.{bytes_eq}
 use Rattle.std.proofs.lemmas.Grind.{flat_map-append}
 use Rattle.std.proofs.lemmas.List.{take-append-drop, take-append-le, take_more, append_assoc, append-nil, length-append, length-map, get_or-map, get_or_append_left, get_or-append_right, get_or-take, get_or-drop, get_or_read, get_or_push, length_push, length-take-le, length-drop}
 use Rattle.std.proofs.Math.ListN.{drop_of_length-le}
 use Rattle.std.proofs.Math.Seq.{take-append_seam, drop-append_seam}
-use Rattle.std.proofs.lemmas.List.Elements.{All-head, All-tail, filter_passes, All-push, All-append, All-contains, Contains-get_or, Contains-append_left, Contains-append_right, filter-append}
+use Rattle.std.proofs.lemmas.List.Elements.{All-head, All-tail, filter_passes, All-append, All-contains, Contains-get_or, Contains-append_left, Contains-append_right}
 use Rattle.std.proofs.lemmas.List.Sorted.{Contains-permutation, IsPermutation-sym}
 use Rattle.std.proofs.lemmas.List.Kept.{Contains-dedup, Contains-from_dedup, IsStrictlySortedBy-dedup}
 use Rattle.std.proofs.lemmas.Map.Keys.{Less-from_sorted}
 use Rattle.std.proofs.lemmas.Map.Text.{is_eq-slice_cmp}
 use Rattle.std.proofs.lemmas.Slice.Eq.{bytes_eq-Decides}
 use Rattle.std.proofs.lemmas.Cmp.{nat_list_cmp_total}
-use Rattle.std.proofs.lemmas.Bool.{cases_lt}
+use Rattle.std.proofs.lemmas.Bool.{cases_Bool, cases_lt}
+use Rattle.std.proofs.lemmas.List.Filters.{length-filter_both}
+use Rattle.lts_base.specs.declared.limits.TheConstants.{MOST_LABELS}
 use Rattle.std.proofs.lemmas.Bool.Decides.{same_from_decides, Decides-like, Decides-ltb, nat_tests}
 use Rattle.lts_base.specs.declared.raw.RawMove.{RawMove}
 use Rattle.lts_base.specs.declared.sorting.Rule.{Rule}
 use Rattle.lts_base.specs.declared.sorting.SplitError.{SplitError}
 use Rattle.lts_base.specs.declared.sorting.SplitError.TheVariants.{Unsorted, Reserved, TooManyLabels, Memory}
 use Rattle.lts_base.specs.declared.action.Act.TheVariants.{Tau}
+use Rattle.lts_base.specs.declared.divergence.Divergence.TheVariants.{Refuse}
 use Rattle.lts_base.specs.System.{System, IsMoveOf, IsActOf}
 use Rattle.lts_base.specs.Built.{move_at}
-use Rattle.lts_base.specs.Alphabet.{Alphabet, AreRising, text_at, IsLabel}
+use Rattle.lts_base.specs.Alphabet.{Alphabet, AreRising, text_at, IsLabel, is_reserved}
 use Rattle.lts_base.specs.Raw.{RawSystem, as_move, raw_act, raw_move_at}
 use Rattle.lts_base.specs.Sorting.{side_of, IsGoodLabel, IsLabelFault, all_labels, RefusesSplit, AreMoreThan, IsAlphabetOf, IsActFor, AreMovesFor, IsSystemFor, AreSystemsFor, raw_at, system_at}
 use Rattle.lts_base.proofs.MoveLaws.{Contains-filter, Contains-from_filter}
 use Rattle.lts_base.proofs.LabelLaws.{less_apart}
-use Rattle.lts_base.specs.Numbered.{is_side, AreSides, IsFaultAmong, AreNumbersOf, HasLabelBelow, IsBelow, renumbered, renumbered_act}
+use Rattle.lts_base.proofs.FlagLaws.{rising_filter}
+use Rattle.lts_base.specs.Numbered.{shown, is_side, is_input, AreDistinctLabels, AreFlagged, IsFaultAmong, AreNumbersOf, HasLabelBelow, IsBelow, renumbered, renumbered_act}
 
 -- what a sort by bytes and a pass that drops repeats leave
 
@@ -57,28 +62,6 @@ sorted_once-all olds mid news p e = λ k d below.
     let has : Contains mid (get_or olds k d) = Contains-permutation olds mid (get_or olds k d) p (Contains-get_or olds k d below) in
     subst (λ (xs : List (List ℕ)). Contains xs (get_or olds k d)) (sym e)
     (Contains-dedup bytes_equivalence (λ x y t. (bytes_eq-Decides x y).0 t) mid (get_or olds k d) has)
-
--- the sides of the labels seen
-
-pub AreSides-none : (rule : Rule) → AreSides rule [] [] []
-AreSides-none rule = record { good = λ k d below. absurd (omega (arith, below)); inputs = refl; outputs = refl }
-
-filter_push : {X : Type 0} (p : X → Bool) (xs : List X) (x : X) (b : Bool) → p x ≡ b → filter p (xs ++ x ∷ []) ≡ cond b (filter p xs ++ x ∷ []) (filter p xs)
-filter_push p xs x true e = filter-append p xs (x ∷ []) ∙ ap (λ zs. filter p xs ++ zs) (rw e refl)
-filter_push p xs x false e = filter-append p xs (x ∷ []) ∙ ap (λ zs. filter p xs ++ zs) (rw e refl) ∙ append-nil (filter p xs)
-
-pub AreSides-push : (rule : Rule) (seen ins outs : List (List ℕ)) (text : List ℕ) (b : Bool) → AreSides rule seen ins outs → IsGoodLabel rule text → side_of rule text ≡ Some b →
-    AreSides rule (seen ++ text ∷ []) (cond b (ins ++ text ∷ []) ins) (cond b outs (outs ++ text ∷ []))
-AreSides-push rule seen ins outs text true h good e = record {
-  good = All-push (IsGoodLabel rule) seen text h.good good;
-  inputs = ap (λ zs. zs ++ text ∷ []) h.inputs ∙ sym (filter_push (λ t. is_side true (side_of rule t)) seen text true (ap (is_side true) e));
-  outputs = h.outputs ∙ sym (filter_push (λ t. is_side false (side_of rule t)) seen text false (ap (is_side false) e));
-}
-AreSides-push rule seen ins outs text false h good e = record {
-  good = All-push (IsGoodLabel rule) seen text h.good good;
-  inputs = h.inputs ∙ sym (filter_push (λ t. is_side true (side_of rule t)) seen text false (ap (is_side true) e));
-  outputs = ap (λ zs. zs ++ text ∷ []) h.outputs ∙ sym (filter_push (λ t. is_side false (side_of rule t)) seen text true (ap (is_side false) e));
-}
 
 -- the first text of the rest is at fault, or memory ran out
 pub fault_among : (rule : Rule) (front back : List (List ℕ)) (text : List ℕ) (e : SplitError) → All (IsGoodLabel rule) front → 0 < length back → text_at back 0 ≡ text →
@@ -124,30 +107,11 @@ true_side : (o : Option Bool) → is_side true o ≡ true → o ≡ Some true
 true_side None h = cc
 true_side (Some b) h = ap Some h
 
-false_side : (o : Option Bool) → is_side false o ≡ true → o ≡ Some false
-false_side None h = cc
-false_side (Some true) h = cc
-false_side (Some false) h = refl
-
-pub AreSides-ins : (rule : Rule) (seen ins outs : List (List ℕ)) (t : List ℕ) → AreSides rule seen ins outs → Contains ins t → Contains seen t × (side_of rule t ≡ Some true)
-AreSides-ins rule seen ins outs t h has =
-    let p : List ℕ → Bool = λ u. is_side true (side_of rule u) in
-    let there : Contains (filter p seen) t = subst (λ (xs : List (List ℕ)). Contains xs t) h.inputs has in
-    (Contains-from_filter p seen t there, true_side (side_of rule t) (All-contains (λ u. p u ≡ true) (filter p seen) t (filter_passes p seen) there))
-
-pub AreSides-outs : (rule : Rule) (seen ins outs : List (List ℕ)) (t : List ℕ) → AreSides rule seen ins outs → Contains outs t → Contains seen t × (side_of rule t ≡ Some false)
-AreSides-outs rule seen ins outs t h has =
-    let p : List ℕ → Bool = λ u. is_side false (side_of rule u) in
-    let there : Contains (filter p seen) t = subst (λ (xs : List (List ℕ)). Contains xs t) h.outputs has in
-    (Contains-from_filter p seen t there, false_side (side_of rule t) (All-contains (λ u. p u ≡ true) (filter p seen) t (filter_passes p seen) there))
-
-pub AreSides-all : (rule : Rule) (seen ins outs : List (List ℕ)) (t : List ℕ) → AreSides rule seen ins outs → Contains seen t → Contains ins t ⊎ Contains outs t
-AreSides-all rule seen ins outs t h has = go (side_of rule t) refl (All-contains (IsGoodLabel rule) seen t h.good has).sorted
-  where
-    go : (o : Option Bool) → side_of rule t ≡ o → IsSome o → Contains ins t ⊎ Contains outs t
-    go None e some = absurd (cc some)
-    go (Some true) e some = inl (subst (λ (xs : List (List ℕ)). Contains xs t) (sym h.inputs) (Contains-filter (λ u. is_side true (side_of rule u)) seen t has (ap (is_side true) e)))
-    go (Some false) e some = inr (subst (λ (xs : List (List ℕ)). Contains xs t) (sym h.outputs) (Contains-filter (λ u. is_side false (side_of rule u)) seen t has (ap (is_side false) e)))
+-- what is sorted, but not to the inputs
+other_side : (o : Option Bool) → IsSome o → not (is_side true o) ≡ true → o ≡ Some false
+other_side None some h = absurd (cc some)
+other_side (Some true) some h = cc
+other_side (Some false) some h = refl
 
 -- the two sides, sorted and each text once
 pub record AreSorted (rule : Rule) (seen inputs outputs : List (List ℕ)) : Type 0 where
@@ -157,20 +121,30 @@ pub record AreSorted (rule : Rule) (seen inputs outputs : List (List ℕ)) : Typ
   pub each_out : All (λ t. Contains seen t × (side_of rule t ≡ Some false)) outputs
   pub all : (t : List ℕ) → Contains seen t → Contains inputs t ⊎ Contains outputs t
 
-pub AreSorted-from_sides : (rule : Rule) (seen ins outs inputs outputs : List (List ℕ)) → AreSides rule seen ins outs →
-    AreRising inputs → All (Contains ins) inputs → All (Contains inputs) ins → AreRising outputs → All (Contains outs) outputs → All (Contains outputs) outs →
-    AreSorted rule seen inputs outputs
-AreSorted-from_sides rule seen ins outs inputs outputs h up_in each_in all_in up_out each_out all_out = record {
-  rising_in = up_in;
-  rising_out = up_out;
-  each_in = λ k d below. AreSides-ins rule seen ins outs (get_or inputs k d) h (each_in k d below);
-  each_out = λ k d below. AreSides-outs rule seen ins outs (get_or outputs k d) h (each_out k d below);
-  all = λ t has.
-      elim (AreSides-all rule seen ins outs t h has) [
-        | inl i ↦ inl (All-contains (Contains inputs) ins t all_in i)
-        | inr o ↦ inr (All-contains (Contains outputs) outs t all_out o)
-      ];
+-- the labels with the flag and those without it are the two sides
+pub AreSorted-from_flags : (rule : Rule) (raws : List RawSystem) (texts ins outs : List (List ℕ)) → AreDistinctLabels rule raws texts →
+    ins ≡ filter (is_input rule) texts → outs ≡ filter (λ t. not (is_input rule t)) texts → AreSorted rule (all_labels raws) ins outs
+AreSorted-from_flags rule raws texts ins outs h one two = record {
+  rising_in = rw one (rising_filter (is_input rule) texts h.rising);
+  rising_out = rw two (rising_filter (λ t. not (is_input rule t)) texts h.rising);
+  each_in = rw one (λ k d below.
+      let t = get_or (filter (is_input rule) texts) k d in
+      (seen t (Contains-from_filter (is_input rule) texts t (Contains-get_or (filter (is_input rule) texts) k d below)), true_side (side_of rule t) (filter_passes (is_input rule) texts k d below)));
+  each_out = rw two (λ k d below.
+      let t = get_or (filter (λ u. not (is_input rule u)) texts) k d in
+      let there = seen t (Contains-from_filter (λ u. not (is_input rule u)) texts t (Contains-get_or (filter (λ u. not (is_input rule u)) texts) k d below)) in
+      (there, other_side (side_of rule t) (All-contains (IsGoodLabel rule) (all_labels raws) t h.good there).sorted (filter_passes (λ u. not (is_input rule u)) texts k d below)));
+  all = λ t has. sort t (All-contains (Contains texts) (all_labels raws) t h.all has);
 }
+  where
+    seen : (t : List ℕ) → Contains texts t → Contains (all_labels raws) t
+    seen t has = All-contains (Contains (all_labels raws)) texts t h.each has
+
+    sort : (t : List ℕ) → Contains texts t → Contains ins t ⊎ Contains outs t
+    sort t has = elim (cases_Bool (is_input rule t)) [
+      | inl input ↦ inl (subst (λ (xs : List (List ℕ)). Contains xs t) (sym one) (Contains-filter (is_input rule) texts t has input))
+      | inr output ↦ inr (subst (λ (xs : List (List ℕ)). Contains xs t) (sym two) (Contains-filter (λ u. not (is_input rule u)) texts t has (ap not output)))
+    ]
 
 front_text : (inputs outputs : List (List ℕ)) (k : ℕ) → k < length inputs → text_at (inputs ++ outputs) k ≡ text_at inputs k
 front_text inputs outputs k below = get_or_append_left inputs outputs [] k below
@@ -213,18 +187,17 @@ sorted_apart rule seen inputs outputs h j k lt below =
           ]
     ]
 
--- more labels than n
-pub too_many : (rule : Rule) (seen inputs outputs : List (List ℕ)) (n : ℕ) → AreSorted rule seen inputs outputs → n < length inputs + length outputs →
-    AreMoreThan n (inputs ++ outputs) seen
-too_many rule seen inputs outputs n h many = record {
-  many = omega (arith, length-append inputs outputs);
-  distinct = sorted_apart rule seen inputs outputs h;
-  each = All-append (Contains seen) inputs outputs (λ k d below. (h.each_in k d below).0) (λ k d below. (h.each_out k d below).0);
+-- more rising labels than n
+pub too_many : (texts all : List (List ℕ)) (n : ℕ) → AreRising texts → All (Contains all) texts → n < length texts → AreMoreThan n texts all
+too_many texts all n rising each many = record {
+  many = many;
+  distinct = λ j k lt below same. less_apart (text_at texts j) (text_at texts k) (rising j k lt below) same;
+  each = each;
 }
 
 -- the alphabet that the two sides make
 pub alphabet_of : (rule : Rule) (raws : List RawSystem) (inputs outputs : List (List ℕ)) → All (IsGoodLabel rule) (all_labels raws) → All IsLabel (all_labels raws) →
-    AreSorted rule (all_labels raws) inputs outputs → length inputs + length outputs ≤ 1024 →
+    AreSorted rule (all_labels raws) inputs outputs → length inputs + length outputs ≤ MOST_LABELS →
     IsAlphabetOf rule raws (record { texts = inputs ++ outputs; inputs = length inputs })
 alphabet_of rule raws inputs outputs good texts h few = record {
   alphabet = record {
@@ -233,6 +206,9 @@ alphabet_of rule raws inputs outputs good texts h few = record {
     labels = All-append IsLabel inputs outputs
         (λ k d below. All-contains IsLabel (all_labels raws) (get_or inputs k d) texts (h.each_in k d below).0)
         (λ k d below. All-contains IsLabel (all_labels raws) (get_or outputs k d) texts (h.each_out k d below).0);
+    free = All-append (λ text. is_reserved text ≡ false) inputs outputs
+        (λ k d below. (All-contains (IsGoodLabel rule) (all_labels raws) (get_or inputs k d) good (h.each_in k d below).0).free)
+        (λ k d below. (All-contains (IsGoodLabel rule) (all_labels raws) (get_or outputs k d) good (h.each_out k d below).0).free);
     rising_inputs = subst AreRising (sym (take-append_seam inputs outputs)) h.rising_in;
     rising_outputs = subst AreRising (sym (drop-append_seam inputs outputs)) h.rising_out;
     apart = λ j k j_in k_out below. sorted_apart rule (all_labels raws) inputs outputs h j k (omega arith) below;
@@ -273,35 +249,34 @@ All-all_labels P [] all = λ k d below. absurd (omega (arith, below))
 All-all_labels P (r ∷ raws) all =
     All-append P r.labels (all_labels raws) (All-head (λ (q : RawSystem). All P q.labels) r raws all) (All-all_labels P raws (All-tail (λ (q : RawSystem). All P q.labels) r raws all))
 
--- one label more of a system, as the loop over its labels meets it
-pub sort_step : (rule : Rule) (seen texts ins outs ins' outs' : List (List ℕ)) (i : ℕ) (text : List ℕ) (b : Bool) → AreSides rule (seen ++ take i texts) ins outs →
-    i < length texts → text ≡ get_or texts i text → IsGoodLabel rule text → side_of rule text ≡ Some b →
-    ins' ≡ cond b (ins ++ text ∷ []) ins → outs' ≡ cond b outs (outs ++ text ∷ []) → AreSides rule (seen ++ take (i + 1) texts) ins' outs'
-sort_step rule seen texts ins outs ins' outs' i text b h below is good side e f =
-    let taken : take (i + 1) texts ≡ take i texts ++ text ∷ [] = take_more texts i text below ∙ ap (λ u. take i texts ++ u ∷ []) (sym is) in
-    let whole : seen ++ take (i + 1) texts ≡ (seen ++ take i texts) ++ text ∷ [] = ap (λ zs. seen ++ zs) taken ∙ sym (append_assoc seen (take i texts) (text ∷ [])) in
-    rw (whole, e, f) (AreSides-push rule (seen ++ take i texts) ins outs text b h good side)
-
-pub sort_fault : (rule : Rule) (seen texts ins outs : List (List ℕ)) (i : ℕ) (text : List ℕ) (e : SplitError) → AreSides rule (seen ++ take i texts) ins outs →
-    i < length texts → text ≡ get_or texts i text → (e ≡ Memory) ⊎ IsLabelFault rule text e → IsFaultAmong rule (seen ++ texts) e
-sort_fault rule seen texts ins outs i text e h below is fault =
+-- the first texts are good, and then one is at fault
+pub fault_at : (rule : Rule) (seen texts : List (List ℕ)) (i : ℕ) (text : List ℕ) (e : SplitError) → All (IsGoodLabel rule) (seen ++ take i texts) → i < length texts → text_at texts i ≡ text →
+    (e ≡ Memory) ⊎ IsLabelFault rule text e → IsFaultAmong rule (seen ++ texts) e
+fault_at rule seen texts i text e good below here fault =
     let whole : (seen ++ take i texts) ++ drop i texts ≡ seen ++ texts = append_assoc seen (take i texts) (drop i texts) ∙ ap (λ zs. seen ++ zs) (take-append-drop i texts) in
-    let first : text_at (drop i texts) 0 ≡ text = get_or-drop i texts 0 [] ∙ ap (λ n. get_or texts n []) (add-zero i) ∙ sym (get_or_read texts i text below is []) in
+    let first : text_at (drop i texts) 0 ≡ text = get_or-drop i texts 0 [] ∙ ap (λ n. get_or texts n []) (add-zero i) ∙ here in
     subst (λ (zs : List (List ℕ)). IsFaultAmong rule zs e) whole
-    (fault_among rule (seen ++ take i texts) (drop i texts) text e h.good (omega (arith, length-drop i texts)) first fault)
+    (fault_among rule (seen ++ take i texts) (drop i texts) text e good (omega (arith, length-drop i texts)) first fault)
 
-pub labels_fault : (rule : Rule) (raws : List RawSystem) (i : ℕ) (r : RawSystem) (texts : List (List ℕ)) (e : SplitError) → i < length raws → r ≡ get_or raws i r → texts ≡ r.labels →
-    IsFaultAmong rule (all_labels (take i raws) ++ texts) e → RefusesSplit rule raws e
-labels_fault rule raws i r texts e below is these fault =
+-- a fault among the texts after good ones
+fault_after : (rule : Rule) (seen texts : List (List ℕ)) (e : SplitError) → All (IsGoodLabel rule) seen → IsFaultAmong rule texts e → IsFaultAmong rule (seen ++ texts) e
+fault_after rule seen texts e good (inl out) = inl out
+fault_after rule seen texts e good (inr (k, fault)) =
+    fault_at rule seen texts k (text_at texts k) e (All-append (IsGoodLabel rule) seen (take k texts) good fault.before) fault.below refl (inr fault.fault)
+
+-- a fault among the labels of one more system
+pub labels_fault : (rule : Rule) (raws : List RawSystem) (i : ℕ) (r : RawSystem) (texts : List (List ℕ)) (e : SplitError) → All (IsGoodLabel rule) (all_labels (take i raws)) → i < length raws →
+    r ≡ get_or raws i r → texts ≡ r.labels → IsFaultAmong rule texts e → RefusesSplit rule raws e
+labels_fault rule raws i r texts e good below is these fault =
     let these' : texts ≡ (get_or raws i r).labels = these ∙ ap (λ (q : RawSystem). q.labels) is in
-    let here : IsFaultAmong rule (all_labels (take i raws) ++ (get_or raws i r).labels) e = subst (λ (zs : List (List ℕ)). IsFaultAmong rule (all_labels (take i raws) ++ zs) e) these' fault in
+    let here : IsFaultAmong rule (all_labels (take i raws) ++ (get_or raws i r).labels) e =
+    fault_after rule (all_labels (take i raws)) (get_or raws i r).labels e good (subst (λ (zs : List (List ℕ)). IsFaultAmong rule zs e) these' fault) in
     refused_by_fault rule raws e (subst (λ (zs : List (List ℕ)). IsFaultAmong rule zs e) (sym (all_labels-split raws i r below)) (fault_extends rule _ (all_labels (drop (i + 1) raws)) e here))
 
-pub labels_step : (rule : Rule) (raws : List RawSystem) (i : ℕ) (r : RawSystem) (texts ins outs : List (List ℕ)) → i < length raws → r ≡ get_or raws i r → texts ≡ r.labels →
-    AreSides rule (all_labels (take i raws) ++ texts) ins outs → AreSides rule (all_labels (take (i + 1) raws)) ins outs
-labels_step rule raws i r texts ins outs below is these h =
-    let these' : texts ≡ (get_or raws i r).labels = these ∙ ap (λ (q : RawSystem). q.labels) is in
-    subst (λ (zs : List (List ℕ)). AreSides rule zs ins outs) (ap (λ zs. all_labels (take i raws) ++ zs) these' ∙ sym (all_labels-more raws i r below)) h
+-- the labels of one more system
+pub labels_more : (raws : List RawSystem) (i : ℕ) (r : RawSystem) (texts : List (List ℕ)) → i < length raws → r ≡ get_or raws i r → texts ≡ r.labels →
+    all_labels (take (i + 1) raws) ≡ all_labels (take i raws) ++ texts
+labels_more raws i r texts below is these = all_labels-more raws i r below ∙ ap (λ zs. all_labels (take i raws) ++ zs) (sym (these ∙ ap (λ (q : RawSystem). q.labels) is))
 
 -- the numbers of texts in the alphabet
 
@@ -361,7 +336,7 @@ AreSystemsFor-none a = record { long = refl; each = λ k below. absurd (omega (a
 pub AreSystemsFor-step : (a : Alphabet) (raws : List RawSystem) (systems : List System) (i : ℕ) (r : RawSystem) (s : System) → AreSystemsFor a (take i raws) systems → i < length raws →
     r ≡ get_or raws i r → IsSystemFor a r s → AreSystemsFor a (take (i + 1) raws) (systems ++ s ∷ [])
 AreSystemsFor-step a raws systems i r s h below is one =
-    let none : System = record { states = 0; start = 0; inputs = 0; outputs = 0; moves = [] } in
+    let none : System = record { states = 0; start = 0; inputs = 0; outputs = 0; divergence = Refuse; moves = [] } in
     let count : length systems ≡ i = h.long ∙ length-take-le i raws (omega arith) in
     record {
       long = omega (arith, length_push systems s, count, length-take-le (i + 1) raws (omega arith));
@@ -383,18 +358,20 @@ AreSystemsFor-step a raws systems i r s h below is one =
 pub take_all : {X : Type 0} (xs : List X) (n : ℕ) → length xs ≤ n → take n xs ≡ xs
 take_all xs n le = sym (append-nil (take n xs)) ∙ ap (λ zs. take n xs ++ zs) (sym (drop_of_length-le xs le)) ∙ take-append-drop n xs
 
-pub texts_step : (raws : List RawSystem) (i : ℕ) (r : RawSystem) → i < length raws → r ≡ get_or raws i r → All IsLabel (all_labels (take i raws)) → All IsLabel r.labels →
-    All IsLabel (all_labels (take (i + 1) raws))
-texts_step raws i r below is all more =
-    let here : All IsLabel (get_or raws i r).labels = subst (λ (q : RawSystem). All IsLabel q.labels) is more in
-    subst (All IsLabel) (sym (all_labels-more raws i r below)) (All-append IsLabel (all_labels (take i raws)) (get_or raws i r).labels all here)
+-- the alphabet of distinct labels, by their flags, where each part is handed on behind a reference
+pub alphabet_from_flags : (rule : Rule) (raws : List RawSystem) (texts firsts seconds : List (Bor (List ℕ))) (ins outs : List (List ℕ)) (flags handed : List Bool) →
+    AreDistinctLabels rule raws (shown texts) → firsts ≡ texts → flags ≡ map (is_input rule) (shown firsts) → seconds ≡ texts → handed ≡ flags → AreFlagged (shown seconds) handed ins outs →
+    IsAlphabetOf rule raws (record { texts = ins ++ outs; inputs = length ins })
+alphabet_from_flags rule raws texts firsts seconds ins outs flags handed h first is second hand flagged =
+    let same : handed ≡ map (is_input rule) (shown seconds) = hand ∙ is ∙ ap (λ (ts : List (Bor (List ℕ))). map (is_input rule) (shown ts)) (first ∙ sym second) in
+    let (one, two) = flagged (is_input rule) same in
+    let whole : AreDistinctLabels rule raws (shown seconds) = subst (λ (ts : List (Bor (List ℕ))). AreDistinctLabels rule raws (shown ts)) (sym second) h in
+    let long : length ins + length outs ≡ length (shown seconds) = rw (one, two) (length-filter_both (is_input rule) (λ t. not (is_input rule t)) (λ t. refl) (shown seconds)) in
+    alphabet_of rule raws ins outs whole.good whole.labels (AreSorted-from_flags rule raws (shown seconds) ins outs whole one two) (omega (arith, long, whole.few))
 
--- what a loop over all systems has gathered at its end makes the alphabet
-pub alphabet_at_end : (rule : Rule) (raws : List RawSystem) (n : ℕ) (ins outs inputs outputs : List (List ℕ)) → length raws ≤ n → AreSides rule (all_labels (take n raws)) ins outs →
-    All IsLabel (all_labels (take n raws)) → AreRising inputs → All (Contains ins) inputs → All (Contains inputs) ins → AreRising outputs → All (Contains outs) outputs →
-    All (Contains outputs) outs → length inputs + length outputs ≤ 1024 → IsAlphabetOf rule raws (record { texts = inputs ++ outputs; inputs = length inputs })
-alphabet_at_end rule raws n ins outs inputs outputs le h texts up_in each_in all_in up_out each_out all_out few =
-    let sides : AreSides rule (all_labels raws) ins outs = subst (λ (rs : List RawSystem). AreSides rule (all_labels rs) ins outs) (take_all raws n le) h in
-    let labels : All IsLabel (all_labels raws) = subst (λ (rs : List RawSystem). All IsLabel (all_labels rs)) (take_all raws n le) texts in
-    alphabet_of rule raws inputs outputs sides.good labels
-    (AreSorted-from_sides rule (all_labels raws) ins outs inputs outputs sides up_in each_in all_in up_out each_out all_out) few
+-- what the distinct texts of all systems are, at the end of a loop that gathers labels
+pub distinct_at_end : (rule : Rule) (raws : List RawSystem) (n : ℕ) (seen texts : List (List ℕ)) → length raws ≤ n → seen ≡ all_labels (take n raws) → All (IsGoodLabel rule) (all_labels (take n raws)) →
+    All (Contains seen) texts → All (Contains texts) seen → All (IsGoodLabel rule) (all_labels raws) × All (Contains (all_labels raws)) texts × All (Contains texts) (all_labels raws)
+distinct_at_end rule raws n seen texts le is good each all =
+    let whole : all_labels (take n raws) ≡ all_labels raws = ap all_labels (take_all raws n le) in
+    (subst (All (IsGoodLabel rule)) whole good, subst (λ (ls : List (List ℕ)). All (Contains ls) texts) (is ∙ whole) each, subst (All (Contains texts)) (is ∙ whole) all)

@@ -1,4 +1,4 @@
--- The set of states after a trace, and what states and lists of states show and allow.
+-- Promise: the set of states after a trace, and what states and lists of states show and allow.
 -- Tretmans (2008), `after` and `out`.
 use Rattle.std.specs.Prelude.{ℕ, ◌≤◌, List, All, Contains}
 use Rattle.std.specs.List.Sorted.{IsStrictlyIncreasing}

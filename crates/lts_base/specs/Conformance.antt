@@ -1,4 +1,4 @@
--- Allowed traces, violations and conformance: ioco and uioco.
+-- Promise: allowed traces, violations and conformance: ioco and uioco.
 -- Tretmans (2008), Straces and ioco; Utraces and uioco.
 use Rattle.std.specs.Prelude.{◌≡◌, ℕ, List, ◌∷◌, ◌++◌}
 use Rattle.lts_base.specs.declared.item.Item.{Item}
@@ -23,8 +23,8 @@ IsAllowed Uioco s σ = Has s σ × IsUtraceAlong s σ
 pub record IsViolation (mode : Mode) (i s : System) (σ : List Item) (x : Item) : Type 0 where
   pub allowed : IsAllowed mode s σ
   pub shown : ShowsAfter i σ x
-  pub unshown : ShowsAfter s σ x → ⊥
+  pub unshown : ¬ ShowsAfter s σ x
 
 -- the implementation i conforms to the specification s: there is no violation
 abbrev pub IsConforming : Mode → System → System → Type 0
-IsConforming mode i s = (σ : List Item) (x : Item) → IsViolation mode i s σ x → ⊥
+IsConforming mode i s = (σ : List Item) (x : Item) → ¬ IsViolation mode i s σ x

@@ -13,3 +13,5 @@ pub mod Built
 pub mod Raw
 pub mod Sorting
 pub mod Numbered
+pub mod Packed
+pub mod Descent

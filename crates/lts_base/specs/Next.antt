@@ -1,4 +1,4 @@
--- One step from a list of states to the next.
+-- Promise: one step from a list of states to the next.
 -- Tretmans (2008), `after` for one action.
 use Rattle.std.specs.Prelude.{ℕ, List, [], All, Contains}
 use Rattle.std.specs.List.Sorted.{IsStrictlyIncreasing}

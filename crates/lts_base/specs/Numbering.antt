@@ -1,4 +1,4 @@
--- Items by the numbers of their labels.
+-- Promise: items by the numbers of their labels.
 use Rattle.std.specs.Prelude.{ℕ, if◌then◌else◌, nat_lt}
 use Rattle.lts_base.specs.declared.item.Item.{Item}
 use Rattle.lts_base.specs.declared.item.Item.TheVariants.{Input, Output}

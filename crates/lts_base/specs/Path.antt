@@ -1,4 +1,4 @@
--- Paths of a system, and what is seen along them.
+-- Promise: paths of a system, and what is seen along them.
 -- Tretmans (2008), suspension traces.
 use Rattle.std.specs.Prelude.{◌≡◌, ℕ, List, [], ◌∷◌, Contains, if◌then◌else◌, nat_lt}
 use Rattle.std.specs.List.{flat_map}

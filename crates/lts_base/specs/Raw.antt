@@ -1,4 +1,4 @@
--- Systems as files hold them: labels by their texts, not yet sorted into inputs and outputs.
+-- Promise: systems as files hold them: labels by their texts, not yet sorted into inputs and outputs.
 use Rattle.std.specs.Prelude.{◌≡◌, ℕ, ◌^◌, ◌<◌, List, length, map, All, Option, Some, None, slice_index_or as get_or}
 use Rattle.lts_base.specs.declared.action.Act.{Act}
 use Rattle.lts_base.specs.declared.action.Act.TheVariants.{Tau, Label}
@@ -34,7 +34,7 @@ Carries moves k a = (k < length moves) × ((raw_move_at moves k).label ≡ Some 
 pub record AreLabelsOf (moves : List RawMove) (labels : List (List ℕ)) : Type 0 where
   pub few : length labels < 2 ^ 32
   pub texts : All IsLabel labels
-  pub distinct : (j k : ℕ) → j < k → k < length labels → text_at labels j ≡ text_at labels k → ⊥
+  pub distinct : (j k : ℕ) → j < k → k < length labels → ¬ (text_at labels j ≡ text_at labels k)
   pub carried : (a : ℕ) → a < length labels → (k : ℕ) × Carries moves k a
   pub ordered : (a b k : ℕ) → a < b → Carries moves k b → (j : ℕ) × (j < k) × Carries moves j a
 

@@ -1,4 +1,4 @@
--- The pairs of sets that a decision reaches, in the order of their least traces, and the limits that cut the list.
+-- Promise: the pairs of sets that a decision reaches, in the order of their least traces, and the limits that cut the list.
 use Rattle.std.specs.Prelude.{◌≡◌, ℕ, ◌<◌, ◌≤◌, List, [], ◌∷◌, ◌++◌, length, map, Contains, ◌⊎◌, if◌then◌else◌, slice_index_or as get_or}
 use Rattle.std.specs.List.{fold, sum_by, list_any}
 use Rattle.std.specs.Str.{bytes_eq}

@@ -1,4 +1,4 @@
--- Valid relations between lists of states: what a certificate of conformance has to be.
+-- Promise: valid relations between lists of states: what a certificate of conformance has to be.
 use Rattle.std.specs.Prelude.{◌≡◌, ℕ, List, [], map, Contains, ◌⊎◌, slice_index_or as get_or}
 use Rattle.lts_base.specs.declared.item.Item.{Item}
 use Rattle.lts_base.specs.declared.item.Mode.{Mode}

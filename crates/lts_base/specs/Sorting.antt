@@ -1,18 +1,20 @@
--- How labels are sorted into inputs and outputs, and how raw systems become systems over one alphabet.
-use Rattle.std.specs.Prelude.{◌≡◌, ℕ, ◌-◌, ◌<◌, Bool, true, false, ◌||◌, ◌==◌, List, [], length, take, All, Contains, Option, Some, None, IsSome, codes, if◌then◌else◌, nat_lt, slice_index_or as get_or}
+-- Promise: how labels are sorted into inputs and outputs, and how raw systems become systems over one alphabet.
+use Rattle.std.specs.Prelude.{◌≡◌, ℕ, ◌-◌, ◌<◌, Bool, true, false, ◌==◌, List, [], length, take, All, Contains, Option, Some, None, IsSome, if◌then◌else◌, nat_lt, slice_index_or as get_or}
 use Rattle.std.specs.List.{flat_map, list_any}
 use Rattle.std.specs.List.Sorted.{IsPermutation}
 use Rattle.std.specs.Str.{bytes_eq}
 use Rattle.lts_base.specs.declared.action.Act.{Act}
 use Rattle.lts_base.specs.declared.action.Act.TheVariants.{Tau, Label}
 use Rattle.lts_base.specs.declared.action.Move.{Move}
+use Rattle.lts_base.specs.declared.divergence.Divergence.TheVariants.{Refuse}
 use Rattle.lts_base.specs.declared.raw.RawMove.{RawMove}
 use Rattle.lts_base.specs.declared.sorting.Rule.{Rule}
 use Rattle.lts_base.specs.declared.sorting.Rule.TheVariants.{Prefix, Suffix, Listed}
 use Rattle.lts_base.specs.declared.sorting.SplitError.{SplitError}
 use Rattle.lts_base.specs.declared.sorting.SplitError.TheVariants.{Unsorted, Reserved, TooManyLabels, Memory}
+use Rattle.lts_base.specs.declared.limits.TheConstants.{MOST_LABELS}
 use Rattle.lts_base.specs.System.{System}
-use Rattle.lts_base.specs.Alphabet.{Alphabet, IsAlphabet, text_at}
+use Rattle.lts_base.specs.Alphabet.{Alphabet, IsAlphabet, text_at, is_reserved}
 use Rattle.lts_base.specs.Built.{move_at}
 use Rattle.lts_base.specs.Raw.{RawSystem, raw_move_at}
 
@@ -25,10 +27,6 @@ abbrev pub side_of : Rule → List ℕ → Option Bool
 side_of Prefix text = side_of_mark (get_or text 0 0)
 side_of Suffix text = side_of_mark (get_or text (length text - 1) 0)
 side_of (Listed inputs) text = Some (list_any (bytes_eq text) inputs)
-
--- the texts that mean quiescence or the internal action
-abbrev pub is_reserved : List ℕ → Bool
-is_reserved text = bytes_eq text (codes "delta") || bytes_eq text (codes "i") || bytes_eq text (codes "tau")
 
 -- the label isn't reserved, and the rule sorts it
 pub record IsGoodLabel (rule : Rule) (text : List ℕ) : Type 0 where
@@ -55,14 +53,14 @@ pub record IsFirstLabelFault (rule : Rule) (texts : List (List ℕ)) (k : ℕ) (
 -- these are more than n distinct texts of the list
 pub record AreMoreThan (n : ℕ) (texts all : List (List ℕ)) : Type 0 where
   pub many : n < length texts
-  pub distinct : (j k : ℕ) → j < k → k < length texts → text_at texts j ≡ text_at texts k → ⊥
+  pub distinct : (j k : ℕ) → j < k → k < length texts → ¬ (text_at texts j ≡ text_at texts k)
   pub each : All (Contains all) texts
 
--- why the systems can't be split: the first label at fault; or no label is, and there are more than 1,024 of them
+-- why the systems can't be split: the first label at fault; or no label is, and there are more than `MOST_LABELS` of them
 abbrev pub RefusesSplit : Rule → List RawSystem → SplitError → Type 0
 RefusesSplit rule raws (Reserved told) = (k : ℕ) × IsFirstLabelFault rule (all_labels raws) k (Reserved told)
 RefusesSplit rule raws (Unsorted told) = (k : ℕ) × IsFirstLabelFault rule (all_labels raws) k (Unsorted told)
-RefusesSplit rule raws TooManyLabels = All (IsGoodLabel rule) (all_labels raws) × ((texts : List (List ℕ)) × AreMoreThan 1024 texts (all_labels raws))
+RefusesSplit rule raws TooManyLabels = All (IsGoodLabel rule) (all_labels raws) × ((texts : List (List ℕ)) × AreMoreThan MOST_LABELS texts (all_labels raws))
 RefusesSplit rule raws Memory = Unit {0}
 
 -- the alphabet has exactly the labels of the systems, and its inputs are those that the rule sorts so
@@ -89,19 +87,20 @@ pub record AreMovesFor (a : Alphabet) (r : RawSystem) (moves : List Move) : Type
   pub long : length moves ≡ length r.moves
   pub each : (k : ℕ) → k < length r.moves → IsMoveFor a r.labels (raw_move_at r.moves k) (move_at moves k)
 
--- the system is the raw system over the alphabet
+-- the system is the raw system over the alphabet; cycles of moves with Tau mean nothing in it
 pub record IsSystemFor (a : Alphabet) (r : RawSystem) (s : System) : Type 0 where
   pub states : s.states ≡ r.states
   pub start : s.start ≡ r.start
   pub inputs : s.inputs ≡ a.inputs
   pub outputs : s.outputs ≡ length a.texts - a.inputs
+  pub divergence : s.divergence ≡ Refuse
   pub moves : (moves : List Move) × AreMovesFor a r moves × IsPermutation moves s.moves
 
 abbrev pub raw_at : List RawSystem → ℕ → RawSystem
 raw_at raws k = get_or raws k (record { states = 0; start = 0; labels = []; moves = [] })
 
 abbrev pub system_at : List System → ℕ → System
-system_at systems k = get_or systems k (record { states = 0; start = 0; inputs = 0; outputs = 0; moves = [] })
+system_at systems k = get_or systems k (record { states = 0; start = 0; inputs = 0; outputs = 0; divergence = Refuse; moves = [] })
 
 -- one system for each raw one, in order
 pub record AreSystemsFor (a : Alphabet) (raws : List RawSystem) (systems : List System) : Type 0 where

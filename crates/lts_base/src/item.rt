@@ -1,5 +1,11 @@
 //! What can be seen of a system: inputs, outputs and quiescence; and the two conformance relations.
+ghost use Rattle.std.specs.Prelude.{◌≡◌};
+ghost use Rattle.std.specs.Ordering.{nat_cmp};
+ghost use Rattle.lts_base.specs.System.{System, IsItemOf, label_count};
+ghost use Rattle.lts_base.specs.Order.{place};
+
 use crate::list::Listed;
+use std::cmp::Ordering;
 
 /// One place of a suspension trace. The number is the label's number in the alphabet.
 #[derive(Clone, Copy, PartialEq, Eq, PartialOrd, Ord, Hash, Debug)]
@@ -24,3 +30,11 @@ pub enum Mode {
 
 /// A suspension trace, or a candidate for one.
 pub type Trace = Listed<Item>;
+
+/// How the items of an alphabet are ordered: inputs, then outputs, by their labels' numbers, and
+/// `delta` last. It is the order that the type derives, so lists of items may be sorted by it.
+pub fn item_order(one: Item, other: Item) -> Ordering
+    ensures { (s : System) → IsItemOf s one → IsItemOf s other → result ≡ nat_cmp (place (label_count s) one) (place (label_count s) other) }
+{
+    one.cmp(&other)
+}

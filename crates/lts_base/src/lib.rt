@@ -3,23 +3,29 @@
 #![tactic(auto)]
 
 pub mod action;
+mod cycles;
+mod descent;
+pub mod divergence;
 pub mod item;
 pub mod labels;
+pub mod limits;
 pub mod list;
 pub mod memory;
+pub mod packed;
 pub mod raw;
 pub mod relation;
 pub mod sorting;
 pub mod system;
-#[cfg(test)]
-mod tests;
 
 pub use action::{Act, Move};
-pub use item::{Item, Mode, Trace};
+pub use divergence::Divergence;
+pub use item::{Item, Mode, Trace, item_order};
 pub use labels::Labels;
+pub use limits::MOST_LABELS;
 pub use list::{Listed, Pairs, StateList, StateLists, Text, Texts};
 pub use memory::Memory;
+pub use packed::PackedTexts;
 pub use raw::{RawLts, RawMove, RawMoves};
 pub use relation::Relation;
-pub use sorting::{MOST_LABELS, Rule, SplitError, SplitSystems, split};
+pub use sorting::{Rule, SplitError, SplitSystems, split};
 pub use system::{Lts, LtsError, Moves, Systems, is_quiet};

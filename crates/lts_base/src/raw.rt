@@ -71,6 +71,7 @@ impl RawLts {
         requires moves { length moves < 2 ^ 32 }
         requires labels { AreLabelsOf moves labels }
         ensures ok { IfOk result (λ r. r ≡ record { states = states; start = start; labels = labels; moves = moves }) }
+        ensures raw { IfOk result IsRaw }
         ensures err { IfErr result (RefusesParts states start (length labels) (map as_move moves)) }
     {
         test_start(states, start)?;

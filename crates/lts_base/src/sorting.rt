@@ -1,19 +1,21 @@
 //! One alphabet for all files: the labels sorted into inputs and outputs, and the systems over them.
-ghost use Rattle.std.specs.Prelude.{◌≡◌, ℕ, ◌+◌, ◌^◌, ◌<◌, ◌≤◌, List, [], ◌∷◌, ◌++◌, length, map, All, Bool, Option, Some, IfOk, IfErr, OnOk, OnErr, IsTrue, MatchResult, Contains, IfSome, ◌⊎◌, if◌then◌else◌};
+ghost use Rattle.std.specs.Prelude.{◌≡◌, ◌<◌, [], ◌∷◌, ◌++◌, length, map, All, true, IfOk, IfErr, OnOk, IsTrue, IsSome, MatchResult, MatchOption, Contains, ◌⊎◌, ◌↔◌, if◌then◌else◌};
 ghost use Rattle.std.specs.List.{list_any};
 ghost use Rattle.std.specs.Str.{bytes_eq};
-ghost use Rattle.lts_base.specs.Numbered.{AreSides, IsFaultAmong, AreNumbersOf, HasLabelBelow, renumbered};
-ghost use Rattle.lts_base.specs.Alphabet.{IsLabel, AreRising};
-ghost use Rattle.lts_base.specs.Sorting.{side_of_mark, side_of, is_reserved, IsGoodLabel, IsLabelFault, all_labels, RefusesSplit, IsAlphabetOf, AreSystemsFor, IsSystemFor};
+ghost use Rattle.lts_base.specs.Numbered.{shown, is_side, is_input, marked_side, AreFlagged, AreDistinctLabels, IsFaultAmong, AreNumbersOf, HasLabelBelow, renumbered};
+ghost use Rattle.lts_base.specs.System.{IsSystem};
+ghost use Rattle.lts_base.specs.Alphabet.{IsLabel, AreRising, text_at, is_reserved};
+ghost use Rattle.lts_base.specs.Sorting.{side_of_mark, side_of, IsGoodLabel, IsLabelFault, all_labels, RefusesSplit, IsAlphabetOf, AreSystemsFor, IsSystemFor};
 
 use crate::action::{Act, Move};
 use crate::labels::Labels;
-use crate::list::{Listed, Text, Texts};
+use crate::limits::MOST_LABELS;
+use crate::list::{Listed, Text};
 use crate::memory::Memory;
+use crate::packed::PackedTexts;
 use crate::raw::{RawLts, RawMove};
 use crate::system::{Lts, Moves, Systems};
 use std::alloc::{AllocError, AllocFailed, Global};
-use std::collections::BTreeSet;
 
 /// How labels are sorted into inputs and outputs.
 #[derive(Drop, Debug)]
@@ -23,7 +25,7 @@ pub enum Rule {
     /// By the last byte: `?` is an input, `!` an output.
     Suffix,
     /// The listed labels are inputs, all others outputs.
-    Listed(Texts),
+    Listed(PackedTexts),
 }
 
 /// Why labels can't be sorted.
@@ -33,7 +35,7 @@ pub enum SplitError {
     Unsorted(Text),
     /// The first label at fault, which is `delta`, `i` or `tau`.
     Reserved(Text),
-    /// There are more than 1,024 labels.
+    /// There are more than `MOST_LABELS` labels.
     TooManyLabels,
     /// Memory ran out.
     Memory,
@@ -81,10 +83,7 @@ pub struct SplitSystems {
     pub systems: Systems,
 }
 
-/// The most labels that all files of a run may have together.
-pub const MOST_LABELS: usize = 1024;
-
-/// The labels seen so far, by the side that the rule sorts them to, with repeats.
+/// Labels by the side that the rule sorts them to.
 #[derive(Drop)]
 struct Sides {
     inputs: Vec<Text>,
@@ -95,6 +94,7 @@ struct Sides {
 pub fn split(alloc: Global, raw: &[RawLts], rule: &Rule) -> Result<SplitSystems, SplitError>
     ensures labels { IfOk result (λ s. IsAlphabetOf rule.now raw.now s.labels) }
     ensures systems { IfOk result (λ s. AreSystemsFor s.labels raw.now s.systems) }
+    ensures sound { IfOk result (λ s. All IsSystem s.systems) }
     ensures err { IfErr result (RefusesSplit rule.now raw.now) }
 {
     let labels = labels_of(alloc, raw, rule)?;
@@ -119,64 +119,147 @@ fn side_by_mark(mark: u8) -> Option<bool>
     }
 }
 
-/// Where the rule sorts a label: true for an input, false for an output.
-fn side(rule: &Rule, text: &[u8]) -> Option<bool>
+/// Where the label's mark sorts it, None also where the rule goes by a list.
+fn marked_side(rule: &Rule, text: &[u8]) -> Option<bool>
     requires { 0 < length text.now }
-    ensures { result ≡ side_of rule.now text.now }
+    ensures { result ≡ marked_side rule.now text.now }
 {
     match rule {
         Rule::Prefix => side_by_mark(text[0]),
         Rule::Suffix => side_by_mark(text[text.len() - 1]),
-        Rule::Listed(inputs) => Some(is_listed(inputs.as_slice(), text)),
+        Rule::Listed(_) => None,
     }
 }
 
-fn is_listed(texts: &[Text], text: &[u8]) -> bool
-    ensures { result ≡ list_any (bytes_eq text.now) texts.now }
-{
-    for listed in texts {
-        if text == listed.as_slice() {
-            return true;
-        }
-    }
-    false
-}
-
-/// Where the rule sorts the label, which is refused where it is reserved or sorted nowhere.
-fn label_side(alloc: Global, rule: &Rule, text: &[u8]) -> Result<bool, SplitError>
+/// Whether the rule sorts the label to a side; a list sorts all.
+fn is_sorted(rule: &Rule, text: &[u8]) -> bool
     requires { 0 < length text.now }
-    ensures { MatchResult result (λ b. IsGoodLabel rule.now text.now × (side_of rule.now text.now ≡ Some b)) (λ e. (e ≡ SplitError.Memory) ⊎ IsLabelFault rule.now text.now e) }
+    ensures { IsTrue result ↔ IsSome (side_of rule.now text.now) }
+{
+    match rule {
+        Rule::Listed(_) => true,
+        _ => marked_side(rule, text).is_some(),
+    }
+}
+
+/// Refuses the label where it is reserved or sorted nowhere.
+fn test_label(alloc: Global, rule: &Rule, text: &[u8]) -> Result<(), SplitError>
+    requires { 0 < length text.now }
+    ensures { MatchResult result (λ _. IsGoodLabel rule.now text.now) (λ e. (e ≡ SplitError.Memory) ⊎ IsLabelFault rule.now text.now e) }
 {
     if is_reserved_text(text) {
         let told = Vec::from_slice(alloc, text)?;
         return Err(SplitError::Reserved(Listed::from_vec(told)));
     }
-    match side(rule, text) {
-        Some(input) => Ok(input),
-        None => {
-            let told = Vec::from_slice(alloc, text)?;
-            Err(SplitError::Unsorted(Listed::from_vec(told)))
-        }
+    if is_sorted(rule, text) {
+        return Ok(());
     }
+    let told = Vec::from_slice(alloc, text)?;
+    Err(SplitError::Unsorted(Listed::from_vec(told)))
 }
 
-/// Sorts the labels of one more system.
-fn sort_labels(
+/// Adds the labels of one more system to those seen.
+fn gather<'a>(
     alloc: Global,
     rule: &Rule,
-    texts: &[Text],
-    sides: &mut Sides,
+    texts: &'a [Text],
+    seen: &mut Vec<&'a [u8]>,
 ) -> Result<(), SplitError>
     requires { All IsLabel texts.now }
-    ensures { (seen : List (List ℕ)) → AreSides rule.now seen sides.old.inputs.items sides.old.outputs.items → MatchResult result (λ _. AreSides rule.now (seen ++ texts.now) sides.new.inputs.items sides.new.outputs.items) (λ e. IsFaultAmong rule.now (seen ++ texts.now) e) }
+    ensures seen { OnOk result (shown seen.new.items ≡ shown seen.old.items ++ texts.now) }
+    ensures good { OnOk result (All (IsGoodLabel rule.now) texts.now) }
+    ensures err { IfErr result (IsFaultAmong rule.now texts.now) }
 {
     'texts: for text in texts {
         let bytes = text.as_slice();
-        let input = label_side(alloc, rule, bytes)?;
-        let copy = Listed::from_vec(Vec::from_slice(alloc, bytes)?);
-        put(sides, input, copy)?;
+        test_label(alloc, rule, bytes)?;
+        seen.push(bytes)?;
     }
     Ok(())
+}
+
+/// Sorts the texts by their bytes and keeps each once.
+fn sort_once(texts: &mut Vec<&[u8]>)
+    ensures rising { AreRising (shown texts.new.items) }
+    ensures each { All (Contains (shown texts.old.items)) (shown texts.new.items) }
+    ensures all { All (Contains (shown texts.new.items)) (shown texts.old.items) }
+{
+    texts.sort_unstable_by(|a, b| a.cmp(b));
+    texts.dedup_by(|a, b| a == b);
+}
+
+/// The labels of all systems, each once, in the order of their bytes.
+fn distinct_labels<'a>(
+    alloc: Global,
+    raw: &'a [RawLts],
+    rule: &Rule,
+) -> Result<Vec<&'a [u8]>, SplitError>
+    ensures ok { IfOk result (λ texts. AreDistinctLabels rule.now raw.now (shown texts.items)) }
+    ensures err { IfErr result (RefusesSplit rule.now raw.now) }
+{
+    let mut texts = Vec::new(alloc);
+    'systems: for system in raw {
+        gather(alloc, rule, system.labels().as_slice(), &mut texts)?;
+    }
+    sort_once(&mut texts);
+    if texts.len() > MOST_LABELS {
+        return Err(SplitError::TooManyLabels);
+    }
+    Ok(texts)
+}
+
+/// The place of the text among texts that stand in the order of their bytes.
+fn place_of(texts: &[&[u8]], text: &[u8]) -> Option<usize>
+    requires { AreRising (shown texts.now) }
+    ensures { MatchOption result (¬ Contains (shown texts.now) text.now) (λ k. (k < length texts.now) × (text_at (shown texts.now) k ≡ text.now)) }
+{
+    match texts.binary_search_by(|t| (*t).cmp(text)) {
+        Ok(place) => Some(place),
+        Err(_) => None,
+    }
+}
+
+/// Which of the labels are listed. The list may be far longer than the labels, so it is gone
+/// through once.
+fn listed_flags(
+    alloc: Global,
+    inputs: &PackedTexts,
+    texts: &[&[u8]],
+) -> Result<Vec<bool>, AllocError>
+    requires { AreRising (shown texts.now) }
+    ensures { IfOk result (λ flags. flags.items ≡ map (λ t. list_any (bytes_eq t) inputs.now) (shown texts.now)) }
+{
+    let mut flags = Vec::from_elem(alloc, false, texts.len())?;
+    for line in 0..inputs.len() {
+        if let Some(place) = place_of(texts, inputs.get(line)) {
+            flags[place] = true;
+        }
+    }
+    Ok(flags)
+}
+
+/// Which of the labels have the mark of an input.
+fn marked_flags(alloc: Global, rule: &Rule, texts: &[&[u8]]) -> Result<Vec<bool>, AllocError>
+    requires { All IsLabel (shown texts.now) }
+    ensures { IfOk result (λ flags. flags.items ≡ map (λ t. is_side true (marked_side rule.now t)) (shown texts.now)) }
+{
+    let mut flags = Vec::with_capacity(alloc, texts.len())?;
+    for text in texts {
+        flags.push(matches!(marked_side(rule, text), Some(true)))?;
+    }
+    Ok(flags)
+}
+
+/// Which of the labels the rule sorts to the inputs.
+fn input_flags(alloc: Global, rule: &Rule, texts: &[&[u8]]) -> Result<Vec<bool>, AllocError>
+    requires rising { AreRising (shown texts.now) }
+    requires labels { All IsLabel (shown texts.now) }
+    ensures { IfOk result (λ flags. flags.items ≡ map (is_input rule.now) (shown texts.now)) }
+{
+    match rule {
+        Rule::Listed(inputs) => listed_flags(alloc, inputs, texts),
+        _ => marked_flags(alloc, rule, texts),
+    }
 }
 
 fn put(sides: &mut Sides, input: bool, text: Text) -> Result<(), Memory>
@@ -191,14 +274,20 @@ fn put(sides: &mut Sides, input: bool, text: Text) -> Result<(), Memory>
     Ok(())
 }
 
-/// Sorts the texts by their bytes and keeps each once.
-fn sort_once(texts: &mut Vec<Text>)
-    ensures rising { AreRising texts.new.items }
-    ensures each { All (Contains texts.old.items) texts.new.items }
-    ensures all { All (Contains texts.new.items) texts.old.items }
+/// Copies the labels to the sides that their flags tell.
+fn sides_of(alloc: Global, texts: &[&[u8]], flags: &[bool]) -> Result<Sides, Memory>
+    requires { length flags.now ≡ length texts.now }
+    ensures { IfOk result (λ s. AreFlagged (shown texts.now) flags.now s.inputs.items s.outputs.items) }
 {
-    texts.sort_unstable_by(|a, b| a.as_slice().cmp(b.as_slice()));
-    texts.dedup_by(|a, b| a.as_slice() == b.as_slice());
+    let mut sides = Sides {
+        inputs: Vec::new(alloc),
+        outputs: Vec::new(alloc),
+    };
+    for (place, text) in texts.iter().enumerate() {
+        let copy = Vec::from_slice(alloc, text)?;
+        put(&mut sides, flags[place], Listed::from_vec(copy))?;
+    }
+    Ok(sides)
 }
 
 /// The alphabet of all systems.
@@ -206,26 +295,13 @@ fn labels_of(alloc: Global, raw: &[RawLts], rule: &Rule) -> Result<Labels, Split
     ensures ok { IfOk result (IsAlphabetOf rule.now raw.now) }
     ensures err { IfErr result (RefusesSplit rule.now raw.now) }
 {
-    let mut sides = Sides {
-        inputs: Vec::new(alloc),
-        outputs: Vec::new(alloc),
-    };
-    'systems: for system in raw {
-        sort_labels(alloc, rule, system.labels().as_slice(), &mut sides)?;
-    }
+    let texts = distinct_labels(alloc, raw, rule)?;
+    let flags = input_flags(alloc, rule, &texts)?;
     let Sides {
         mut inputs,
         mut outputs,
-    } = sides;
-    sort_once(&mut inputs);
-    sort_once(&mut outputs);
+    } = sides_of(alloc, &texts, &flags)?;
     let count = inputs.as_slice().len();
-    if count > MOST_LABELS {
-        return Err(SplitError::TooManyLabels);
-    }
-    if outputs.as_slice().len() > MOST_LABELS - count {
-        return Err(SplitError::TooManyLabels);
-    }
     inputs.append(&mut outputs)?;
     Ok(Labels::from_parts(inputs, count as u32))
 }
@@ -234,6 +310,7 @@ fn labels_of(alloc: Global, raw: &[RawLts], rule: &Rule) -> Result<Labels, Split
 fn systems_of(alloc: Global, raw: &[RawLts], labels: &Labels) -> Result<Systems, SplitError>
     requires { All (Contains labels.now.texts) (all_labels raw.now) }
     ensures ok { IfOk result (AreSystemsFor labels.now raw.now) }
+    ensures sound { IfOk result (All IsSystem) }
     ensures err { IfErr result (λ e. e ≡ SplitError.Memory) }
 {
     let mut systems = Listed::new(alloc);
@@ -247,6 +324,7 @@ fn systems_of(alloc: Global, raw: &[RawLts], labels: &Labels) -> Result<Systems,
 fn system_of(alloc: Global, raw: &RawLts, labels: &Labels) -> Result<Lts, SplitError>
     requires { All (Contains labels.now.texts) raw.now.labels }
     ensures ok { IfOk result (IsSystemFor labels.now raw.now) }
+    ensures sound { IfOk result IsSystem }
     ensures err { IfErr result (λ e. e ≡ SplitError.Memory) }
 {
     let numbers = numbers_of(alloc, raw.labels().as_slice(), labels)?;

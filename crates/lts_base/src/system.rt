@@ -1,10 +1,12 @@
 //! A labelled transition system: states, a start state, and moves that are found by their state.
 ghost use Rattle.std.specs.Prelude.{◌≡◌, ◌↔◌, ℕ, ◌+◌, ◌-◌, ◌^◌, ◌<◌, ◌≤◌, List, length, filter, All, IsTrue, IfOk, IfErr, MatchResult};
 ghost use Rattle.std.specs.List.Sorted.{IsPermutation, IsPartitionPoint};
-ghost use Rattle.lts_base.specs.System.{System, IsSystem, IsActOf, IsMoveOf, IsQuiet, AreMovesOf, leaves};
-ghost use Rattle.lts_base.specs.Built.{RefusesParts, IsFaultOf, IsFirstFault, AreByState, AreOffsets};
+ghost use Rattle.lts_base.specs.System.{System, IsSystem, IsActOf, IsMoveOf, IsStable, GivesNoOutput, IsQuiet, IsOnQuietCycle, AreMovesOf, leaves, quieted};
+ghost use Rattle.lts_base.specs.Built.{RefusesParts, IsBuiltOf, IsFaultOf, IsFirstFault, AreByState, AreOffsets};
 
 use crate::action::{Act, Move};
+use crate::cycles::cycle_flags;
+use crate::divergence::Divergence;
 use crate::labels::Labels;
 use crate::list::Listed;
 use crate::memory::Memory;
@@ -61,24 +63,27 @@ pub struct Lts {
     start: u32,
     inputs: u32,
     outputs: u32,
+    divergence: Divergence,
     moves: Vec<Move>,
     // the place of each state's first move, and the number of moves at the end
     offsets: Vec<u32>,
+    // whether each state lies on a cycle of internal moves; empty where nobody asks
+    flags: Vec<bool>,
 }
 
 impl Model for Lts {
-    ghost use Rattle.lts_base.specs.System.{System, IsSystem};
-    ghost use Rattle.lts_base.specs.Built.{AreByState, AreOffsets};
+    ghost use Rattle.lts_base.specs.System.{System};
+    ghost use Rattle.lts_base.specs.Built.{IsLaidOut};
 
     ghost Value = { System };
 
-    ghost view = { λ a. record { states = a.states; start = a.start; inputs = a.inputs; outputs = a.outputs; moves = a.moves.items } };
+    ghost view = { λ a. record { states = a.states; start = a.start; inputs = a.inputs; outputs = a.outputs; divergence = a.divergence; moves = a.moves.items } };
 
-    ghost invariant = { λ a. IsSystem (record { states = a.states; start = a.start; inputs = a.inputs; outputs = a.outputs; moves = a.moves.items }) × AreByState a.moves.items × AreOffsets a.states a.moves.items a.offsets.items };
+    ghost invariant = { λ a. IsLaidOut (record { states = a.states; start = a.start; inputs = a.inputs; outputs = a.outputs; divergence = a.divergence; moves = a.moves.items }) a.offsets.items a.flags.items };
 }
 
 impl Lts {
-    /// The system of these parts, over these labels.
+    /// The system of these parts, over these labels; cycles of internal moves mean nothing in it.
     pub fn build(
         alloc: Global,
         states: u32,
@@ -87,8 +92,9 @@ impl Lts {
         moves: Moves,
     ) -> Result<Lts, LtsError>
         requires { length moves < 2 ^ 32 }
-        ensures ok { IfOk result (λ s. (s.states ≡ states) × (s.start ≡ start) × (s.inputs ≡ labels.now.inputs) × (s.outputs ≡ length labels.now.texts - labels.now.inputs)) }
+        ensures ok { IfOk result (IsBuiltOf states start labels.now) }
         ensures moves { IfOk result (λ s. IsPermutation moves s.moves) }
+        ensures system { IfOk result IsSystem }
         ensures err { IfErr result (RefusesParts states start (length labels.now.texts) moves) }
     {
         test_start(states, start)?;
@@ -103,8 +109,29 @@ impl Lts {
             start,
             inputs,
             outputs: count - inputs,
+            divergence: Divergence::Refuse,
             moves,
             offsets,
+            flags: Vec::new(alloc),
+        })
+    }
+
+    /// The same system, read so that a state on a cycle of internal moves is quiet. It takes time
+    /// linear in the states and moves.
+    pub fn quieted(&self, alloc: Global) -> Result<Lts, Memory>
+        ensures quiet { IfOk result (λ s. s ≡ quieted self.now) }
+        ensures system { IfOk result IsSystem }
+    {
+        let flags = cycle_flags(alloc, self)?;
+        Ok(Lts {
+            states: self.states,
+            start: self.start,
+            inputs: self.inputs,
+            outputs: self.outputs,
+            divergence: Divergence::Quiet,
+            moves: Vec::from_slice(alloc, &self.moves)?,
+            offsets: Vec::from_slice(alloc, &self.offsets)?,
+            flags,
         })
     }
 
@@ -138,6 +165,26 @@ impl Lts {
         ensures system { IsSystem self.now }
     {
         self.outputs
+    }
+
+    /// How cycles of internal moves are read.
+    pub fn divergence(&self) -> Divergence
+        ensures divergence { result ≡ self.now.divergence }
+        ensures system { IsSystem self.now }
+    {
+        self.divergence
+    }
+
+    /// Whether the state lies on a cycle of internal moves, in a system that reads such states as
+    /// quiet; else it is false.
+    pub fn on_cycle(&self, state: u32) -> bool
+        requires { state < self.now.states }
+        ensures { IsTrue result ↔ IsOnQuietCycle self.now state }
+    {
+        match self.divergence {
+            Divergence::Refuse => false,
+            Divergence::Quiet => self.flags[state as usize],
+        }
     }
 
     /// All moves, sorted, with repeats.
@@ -234,11 +281,20 @@ fn first_move(moves: &[Move], state: u32) -> usize
     moves.partition_point(|m| m.from < state)
 }
 
-/// Whether the state is quiet: no move with Tau and none with an output leaves it (Tretmans,
-/// "Model Based Testing with Labelled Transition Systems", quiescence).
+/// Whether the state is quiet: no internal move and no output leaves it, or it lies on a cycle of
+/// internal moves that is read as quiet (Tretmans, "Model Based Testing with Labelled Transition
+/// Systems", quiescence).
 pub fn is_quiet(lts: &Lts, state: u32) -> bool
     requires { state < lts.now.states }
     ensures { IsTrue result ↔ IsQuiet lts.now state }
+{
+    lts.on_cycle(state) || takes_inputs_alone(lts, state)
+}
+
+/// Whether each move that leaves the state has an input.
+fn takes_inputs_alone(lts: &Lts, state: u32) -> bool
+    requires { state < lts.now.states }
+    ensures { IsTrue result ↔ (IsStable lts.now state × GivesNoOutput lts.now state) }
 {
     let inputs = lts.inputs();
     let moves = lts.moves_of(state);

@@ -1,5 +1,5 @@
 -- Laws on the completion by loops.
-use Rattle.std.proofs.Common.{◌≡◌, ◌≢◌, ℕ, suc, ◌+◌, ◌-◌, ◌<◌, ◌≤◌, List, [], ◌∷◌, ◌++◌, Result, Ok, Err, IfOk, IfErr, MatchResult, length, get_or, remove, All, Contains, Bool, true, false, inl, inr, ◌⊎◌, refl, sym, ◌∙◌, ap, arith}
+use Rattle.std.proofs.Common.{◌≡◌, ◌≢◌, ◌↔◌, ℕ, suc, ◌+◌, ◌<◌, ◌≤◌, List, [], ◌∷◌, ◌++◌, Result, Ok, Err, IfOk, IfErr, length, get_or, remove, All, Contains, Bool, true, false, inl, inr, ◌⊎◌, refl, sym, ◌∙◌, ap, arith}
 use Rattle.std.specs.List.{AllPairs}
 use Rattle.std.specs.List.Sorted.{IsPermutation}
 use Rattle.std.proofs.lemmas.List.{append-nil, append_assoc, length-append, length_push, get_or_default, get_or_read}
@@ -8,9 +8,11 @@ use Rattle.std.proofs.lemmas.List.Quantifiers.{all_pairs_push}
 use Rattle.std.proofs.lemmas.List.Sorted.{length_permutation, Contains-permutation, IsPermutation-sym, IsPermutation-remove}
 use Rattle.std.proofs.lemmas.Bool.{cases_lt, false≢true}
 use Rattle.lts_base.specs.declared.action.Act.{Act}
-use Rattle.lts_base.specs.declared.action.Act.TheVariants.{Label}
+use Rattle.lts_base.specs.declared.action.Act.TheVariants.{Tau, Label}
 use Rattle.lts_base.specs.declared.action.Move.{Move}
-use Rattle.lts_base.specs.System.{System, IsSystem, IsMoveOf, label_count}
+use Rattle.lts_base.specs.declared.limits.TheConstants.{MOST_MOVES}
+use Rattle.lts_base.specs.Built.{IsBuiltOf}
+use Rattle.lts_base.specs.System.{System, IsSystem, IsMoveOf, label_count, HasMove, IsTauPath, IsQuiet}
 use Rattle.lts_base.specs.Path.{Step, Along, Rest, IsPath, item_of, trace_of}
 use Rattle.lts_base.specs.Shape.{IsInputEnabled}
 use Rattle.lts_base.proofs.Leads.{act_cases, Leads-here}
@@ -20,14 +22,14 @@ use Rattle.lts_shape.specs.declared.completion.ShapeError.{ShapeError}
 use Rattle.lts_shape.specs.declared.completion.ShapeError.TheVariants.{TooManyMoves, Memory}
 use Rattle.lts_shape.specs.Inputs.{CanTake, Lacks, AreTakers}
 use Rattle.lts_shape.specs.Marks.{AreMarks}
-use Rattle.lts_shape.specs.Angelic.{loop_with, IsMissingLoop, AreMissingLoops, AreAllLoops, IsAngelic, RefusesAngelic, IsFull, IsEarlier, AreLoopsBelow, AreLoopsUpTo}
+use Rattle.lts_shape.specs.Angelic.{loop_with, IsMissingLoop, AreMissingLoops, AreAllLoops, IsAngelic, RefusesAngelic, IsReadAs, IsCompletion, IsFull, IsEarlier, AreLoopsBelow, AreLoopsUpTo}
 use Rattle.lts_shape.proofs.FollowLaws.{AreMarksOf-from_found}
 
 no_loops : (s : System) → AreMissingLoops s []
 no_loops s = record { each = All-nil (IsMissingLoop s); once = λ j k d before below. omega (arith, below) }
 
 -- there are too many moves as it is
-pub refused_at_once : (s : System) (count : ℕ) → count ≡ length s.moves → 1048576 < count → RefusesAngelic s TooManyMoves
+pub refused_at_once : (s : System) (count : ℕ) → count ≡ length s.moves → MOST_MOVES < count → RefusesAngelic s TooManyMoves
 refused_at_once s count same over = ([], no_loops s, omega (arith, same, over))
 
 never_earlier : (a q : ℕ) → IsEarlier 0 0 a q → ⊥
@@ -35,7 +37,7 @@ never_earlier a q (inl below) = omega (arith, below)
 never_earlier a q (inr (same, below)) = omega (arith, below)
 
 -- no loop yet
-pub AreLoopsUpTo-none : (s : System) (moves : List Move) → moves ≡ s.moves → length s.moves ≤ 1048576 → AreLoopsUpTo s 0 0 moves
+pub AreLoopsUpTo-none : (s : System) (moves : List Move) → moves ≡ s.moves → length s.moves ≤ MOST_MOVES → AreLoopsUpTo s 0 0 moves
 AreLoopsUpTo-none s moves same within = rw same (
   within,
   (
@@ -161,7 +163,7 @@ can_from_marks s n states p found marks takers are marked =
 pub AreLoopsUpTo-skip : (s : System) (n p : ℕ) (moves : List Move) → CanTake s n p → AreLoopsUpTo s n p moves → AreLoopsUpTo s n (p + 1) moves
 AreLoopsUpTo-skip s n p moves can (within, (loops, same, are)) = (within, (loops, same, skipped s n p loops can are))
 
-pub AreLoopsUpTo-add : (s : System) (n p : ℕ) (moves new : List Move) → p < s.states → n < s.inputs → Lacks s n p → new ≡ moves ++ loop_with p n ∷ [] → length new ≤ 1048576 → AreLoopsUpTo s n p moves → AreLoopsUpTo s n (p + 1) new
+pub AreLoopsUpTo-add : (s : System) (n p : ℕ) (moves new : List Move) → p < s.states → n < s.inputs → Lacks s n p → new ≡ moves ++ loop_with p n ∷ [] → length new ≤ MOST_MOVES → AreLoopsUpTo s n p moves → AreLoopsUpTo s n (p + 1) new
 AreLoopsUpTo-add s n p moves new state input lacks more within (_, (loops, same, are)) =
     (within, (loops ++ loop_with p n ∷ [], more ∙ ap {A = List Move} {B = List Move} (λ z. z ++ loop_with p n ∷ []) same ∙ append_assoc s.moves loops (loop_with p n ∷ []), grown s n p loops state input lacks are))
 
@@ -174,17 +176,18 @@ refused_when_full s n p moves TooManyMoves state input lacks (within, (loops, sa
 refused_when_full s n p moves Memory state input lacks are full = tt
 
 -- all inputs are done, and the system was built
-pub IsAngelic-from_built : (s t : System) (a : Alphabet) (moves : List Move) → IsOver a s → t.states ≡ s.states → t.start ≡ s.start → t.inputs ≡ a.inputs → t.outputs ≡ length a.texts - a.inputs → AreLoopsUpTo s s.inputs 0 moves → IsPermutation moves t.moves → IsAngelic s t
-IsAngelic-from_built s t a moves over states start inputs outputs (within, (loops, same, are)) sorted = record {
-  states = states;
-  start = start;
-  inputs = inputs ∙ sym over.inputs;
-  outputs = outputs ∙ sym over.outputs;
-  moves = (loops, record { missing = are.missing; all = λ q a below input. are.all q a below input (inl input) }, rw same at sorted);
+pub IsAngelic-from_built : (s t u : System) (a : Alphabet) (moves : List Move) → IsOver a s → IsBuiltOf s.states s.start a t → AreLoopsUpTo s s.inputs 0 moves → IsPermutation moves t.moves → IsReadAs s.divergence t u → IsAngelic s u
+IsAngelic-from_built s t u a moves over built (within, (loops, same, are)) sorted read = record {
+  states = read.states ∙ built.states;
+  start = read.start ∙ built.start;
+  inputs = read.inputs ∙ built.inputs ∙ sym over.inputs;
+  outputs = read.outputs ∙ built.outputs ∙ sym over.outputs;
+  divergence = read.reading;
+  moves = (loops, record { missing = are.missing; all = λ q a below input. are.all q a below input (inl input) }, rw (read.moves, ← same) sorted);
 }
 
-pub within_limit : (moves sorted : List Move) → length moves ≤ 1048576 → IsPermutation moves sorted → length sorted ≤ 1048576
-within_limit moves sorted within permuted = omega (arith, within, length_permutation moves sorted permuted)
+pub within_limit : (moves sorted read : List Move) → length moves ≤ MOST_MOVES → IsPermutation moves sorted → read ≡ sorted → length read ≤ MOST_MOVES
+within_limit moves sorted read within permuted same = rw same (omega (arith, within, length_permutation moves sorted permuted))
 
 -- the mark that was read at a state
 pub read_mark : (found : List ℕ) (states : ℕ) (marks : List Bool) (q : ℕ) (mark value : Bool) → AreMarks found (length found) states marks → q < states → mark ≡ get_or marks q mark → mark ≡ value → get_or marks q false ≡ value
@@ -260,7 +263,7 @@ distinct_within (m ∷ some) all once inside =
     omega (arith, fewer, long)
 
 -- where the system is refused, its moves and all its loops are more than the limit
-pub refused_by_all : (s : System) (loops : List Move) → AreAllLoops s loops → RefusesAngelic s TooManyMoves → 1048576 < length s.moves + length loops
+pub refused_by_all : (s : System) (loops : List Move) → AreAllLoops s loops → RefusesAngelic s TooManyMoves → MOST_MOVES < length s.moves + length loops
 refused_by_all s loops are (some, missing, over) =
     let within = distinct_within some loops missing.once (λ k d below. there (get_or some k d) (missing.each k d below)) in
     omega (arith, over, within)
@@ -291,7 +294,7 @@ no_longer s t u one two =
     each loops missing k d below = there (get_or loops k d) (missing k d below)
 
 -- a refusal says that a completion has too many moves, or that memory ran out
-pub too_many : (s t : System) (e : ShapeError) → IsAngelic s t → RefusesAngelic s e → (e ≡ Memory) ⊎ (1048576 < length t.moves)
+pub too_many : (s t : System) (e : ShapeError) → IsAngelic s t → RefusesAngelic s e → (e ≡ Memory) ⊎ (MOST_MOVES < length t.moves)
 too_many s t Memory is why = inl refl
 too_many s t TooManyMoves is why =
     let long : length t.moves ≡ length (s.moves ++ is.moves.0) = length_permutation _ _ is.moves.2 in
@@ -300,9 +303,55 @@ too_many s t TooManyMoves is why =
     inr (omega (arith, long, over, sum))
 
 -- the answer is the completion exactly where that has at most 1,048,576 moves, but for memory
-pub exactly : (s t : System) (result : Result System ShapeError) → IsAngelic s t → IfOk result (IsAngelic s) → IfOk result (λ u. length u.moves ≤ 1048576) → IfErr result (RefusesAngelic s) →
-    MatchResult result (λ _. length t.moves ≤ 1048576) (λ e. (e ≡ Memory) ⊎ (1048576 < length t.moves))
+pub exactly : (s t : System) (result : Result System ShapeError) → IsAngelic s t → IfOk result (IsAngelic s) → IfOk result (λ u. length u.moves ≤ MOST_MOVES) → IfErr result (RefusesAngelic s) →
+    IsCompletion t result
 exactly s t (Ok u) is ok within err =
     let same = no_longer s t u is ok in
     omega (arith, same, within)
 exactly s t (Err e) is ok within err = too_many s t e is err
+
+-- the moves of the completion that carry Tau or an output are those of the system
+old_move : (s t : System) (p q : ℕ) (act : Act) → IsAngelic s t → ((a : ℕ) → act ≡ Label a → s.inputs ≤ a) → HasMove t p act q ↔ HasMove s p act q
+old_move s t p q act is high = (
+  λ has. back (Contains-append_cases s.moves is.moves.0 m (Contains-permutation t.moves (s.moves ++ is.moves.0) m (IsPermutation-sym (s.moves ++ is.moves.0) t.moves is.moves.2) has)),
+  λ has. Contains-permutation (s.moves ++ is.moves.0) t.moves m is.moves.2 (Contains-append_left s.moves is.moves.0 m has),
+)
+  where
+    m : Move
+    m = record { from = p; act = act; to = q }
+
+    back : Contains s.moves m ⊎ Contains is.moves.0 m → HasMove s p act q
+    back (inl here) = here
+    back (inr loop) =
+        let (r, b, same, low, input, lacks) = All-contains (IsMissingLoop s) is.moves.0 m is.moves.1.missing.each loop in
+        let label : act ≡ Label b = ap {A = Move} {B = Act} (λ x. x.act) same in
+        let above = high b label in
+        absurd (omega (arith, above, input))
+
+no_label : (a b : ℕ) → Tau ≡ Label a → b ≤ a
+no_label a b e = cc
+
+tau_path : (s t : System) (p : ℕ) (rs : List ℕ) (q : ℕ) → ((p q : ℕ) → HasMove s p Tau q → HasMove t p Tau q) → IsTauPath s p rs q → IsTauPath t p rs q
+tau_path s t p [] q moves on = on
+tau_path s t p (r ∷ rs) q moves on = (moves p r on.0, tau_path s t r rs q moves on.1)
+
+-- the same states are quiet in the completion
+pub IsAngelic-quiet : (s t : System) (p : ℕ) → IsAngelic s t → IsQuiet t p ↔ IsQuiet s p
+IsAngelic-quiet s t p is = (to_old, to_new)
+  where
+    tau : (p q : ℕ) → HasMove t p Tau q ↔ HasMove s p Tau q
+    tau p q = old_move s t p q Tau is (λ a e. no_label a s.inputs e)
+
+    output : (p q a : ℕ) → s.inputs ≤ a → HasMove t p (Label a) q ↔ HasMove s p (Label a) q
+    output p q a above = old_move s t p q (Label a) is (λ b e. let same : a ≡ b = label_same a b e in omega (arith, above, same))
+      where
+        label_same : (a b : ℕ) → Label a ≡ Label b → a ≡ b
+        label_same a b e = cc
+
+    to_old : IsQuiet t p → IsQuiet s p
+    to_old (inl (stable, none)) = inl (λ q has. stable q ((tau p q).1 has), λ a above takes. none a (rw is.inputs above) (takes.0, (output p takes.0 a above).1 takes.1))
+    to_old (inr (quiet, (r, rs, on))) = inr (sym is.divergence ∙ quiet, (r, rs, tau_path t s p (r ∷ rs) p (λ p q. (tau p q).0) on))
+
+    to_new : IsQuiet s p → IsQuiet t p
+    to_new (inl (stable, none)) = inl (λ q has. stable q ((tau p q).0 has), λ a above takes. let above' : s.inputs ≤ a = rw is.inputs at above in none a above' (takes.0, (output p takes.0 a above').0 takes.1))
+    to_new (inr (quiet, (r, rs, on))) = inr (is.divergence ∙ quiet, (r, rs, tau_path s t p (r ∷ rs) p (λ p q. (tau p q).1) on))

@@ -1,7 +1,6 @@
 mod PeelLaws
 pub mod CycleLaws
 pub mod FollowLaws
-mod ArrivalLaws
+mod GroupLaws
 mod InputLaws
 pub mod AngelicLaws
-pub mod StableLaws

@@ -1,4 +1,4 @@
--- Words for the choice of the first state and input, which private functions speak in.
+-- Private: words for the choice of the first state and input, which private functions speak in.
 use Rattle.std.specs.Prelude.{◌≡◌, ℕ, ◌<◌, List, Bool, true, false, Option, Some, None, if◌then◌else◌, nat_lt, slice_index_or as get_or}
 
 -- q is the first state that is marked here and not there

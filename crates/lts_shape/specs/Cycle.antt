@@ -1,4 +1,4 @@
--- Cycles of moves with Tau.
+-- Promise: cycles of moves with Tau.
 use Rattle.std.specs.Prelude.{◌≡◌, ℕ, ◌+◌, ◌-◌, ◌<◌, ◌≤◌, List, length, slice_index_or as get_or}
 use Rattle.lts_base.specs.declared.action.Act.TheVariants.{Tau}
 use Rattle.lts_base.specs.Built.{move_at}

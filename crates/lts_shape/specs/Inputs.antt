@@ -1,4 +1,4 @@
--- Inputs that a state can't take.
+-- Promise: inputs that a state can't take.
 -- Tretmans (2008), input-enabled systems, in the weak form.
 use Rattle.std.specs.Prelude.{ℕ, ◌<◌, ◌≤◌, List, [], All, Contains}
 use Rattle.lts_base.specs.declared.item.Item.{Item}
@@ -15,7 +15,7 @@ CanTake s a q = (r : ℕ) × Leads s q [] r × Takes s r a
 
 -- the state lacks the input: it can't take it
 abbrev pub Lacks : System → ℕ → ℕ → Type 0
-Lacks s a q = CanTake s a q → ⊥
+Lacks s a q = ¬ CanTake s a q
 
 -- every state that ends some trace can take the input
 abbrev pub AllCanTake : System → ℕ → Type 0

@@ -1,6 +1,6 @@
 pub mod Peel
 pub mod Cycle
-pub mod Arrivals
+pub mod Groups
 pub mod Marks
 pub mod Inputs
 pub mod Choice

@@ -1,4 +1,4 @@
--- Words for marks of states, which private functions speak in.
+-- Private: words for marks of states, which private functions speak in.
 use Rattle.std.specs.Prelude.{◌≡◌, ℕ, ◌<◌, List, length, Contains, Bool, true, false, slice_index_or as get_or}
 
 -- the states marked are the first n of the list

@@ -1,4 +1,4 @@
--- Words for taking away the states that no move with Tau leads to, which private functions speak in.
+-- Private: words for taking away the states that no move with Tau leads to, which private functions speak in.
 use Rattle.std.specs.Prelude.{◌≡◌, ◌≢◌, ℕ, zero, suc, ◌+◌, ◌<◌, List, ◌++◌, length, take, All, Contains, Bool, true, false, not, ◌&&◌, ◌==◌, slice_index_or as get_or}
 use Rattle.std.specs.List.{count_by, list_any, AllPairs}
 use Rattle.lts_base.specs.declared.action.Act.{Act}

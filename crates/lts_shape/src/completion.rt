@@ -1,25 +1,24 @@
 //! The completion of a system by loops: an input that a state can't take leaves it where it is.
 ghost use Rattle.std.specs.Prelude.{◌≡◌, ℕ, ◌+◌, ◌<◌, ◌≤◌, ◌∷◌, ◌++◌, [], length, OnOk, IfOk, IfErr, MatchResult, ◌⊎◌};
+ghost use Rattle.lts_base.specs.declared.limits.TheConstants.{MOST_MOVES};
 ghost use Rattle.lts_base.specs.Alphabet.{IsOver};
 ghost use Rattle.lts_base.specs.Shape.{IsInputEnabled};
-ghost use Rattle.lts_shape.specs.Arrivals.{AreArrivals};
+ghost use Rattle.lts_shape.specs.Groups.{AreGroups};
 ghost use Rattle.lts_base.specs.System.{System};
-ghost use Rattle.lts_shape.specs.Angelic.{IsAngelic, RefusesAngelic, AreLoopsUpTo, IsFull, loop_with};
+ghost use Rattle.lts_shape.specs.Angelic.{IsAngelic, RefusesAngelic, IsReadAs, IsCompletion, AreLoopsUpTo, IsFull, loop_with};
 
-use crate::arrivals::{Arrivals, arrivals_of};
+use crate::groups::{Groups, groups_of};
 use crate::inputs::takers;
 use crate::reached::marks_of;
-use lts_base::{Act, Labels, Lts, Memory, Move, Moves};
+use lts_base::limits::MOST_MOVES;
+use lts_base::{Act, Divergence, Labels, Lts, Memory, Move, Moves};
 use state_sets::Search;
 use std::alloc::Global;
-
-/// The most moves that the completed system may have.
-const MOST_MOVES: usize = 1_048_576;
 
 /// Why a system isn't completed.
 #[derive(Clone, Copy, PartialEq, Eq, Debug)]
 pub enum ShapeError {
-    /// There would be more than 1,048,576 moves.
+    /// There would be more than `MOST_MOVES` moves.
     TooManyMoves,
     /// Memory ran out.
     Memory,
@@ -42,9 +41,9 @@ pub fn angelic(alloc: Global, lts: &Lts, labels: &Labels) -> Result<Lts, ShapeEr
     requires { IsOver labels.now lts.now }
     ensures ok { IfOk result (IsAngelic lts.now) }
     ensures enabled { IfOk result IsInputEnabled }
-    ensures within { IfOk result (λ t. length t.moves ≤ 1048576) }
+    ensures within { IfOk result (λ t. length t.moves ≤ MOST_MOVES) }
     ensures err { IfErr result (RefusesAngelic lts.now) }
-    ensures exact { (t : System) → IsAngelic lts.now t → MatchResult result (λ _. length t.moves ≤ 1048576) (λ e. (e ≡ ShapeError.Memory) ⊎ (1048576 < length t.moves)) }
+    ensures exact { (t : System) → IsAngelic lts.now t → IsCompletion t result }
 {
     whole(alloc, lts, labels)
 }
@@ -53,35 +52,46 @@ fn whole(alloc: Global, lts: &Lts, labels: &Labels) -> Result<Lts, ShapeError>
     requires { IsOver labels.now lts.now }
     ensures ok { IfOk result (IsAngelic lts.now) }
     ensures enabled { IfOk result IsInputEnabled }
-    ensures within { IfOk result (λ t. length t.moves ≤ 1048576) }
+    ensures within { IfOk result (λ t. length t.moves ≤ MOST_MOVES) }
     ensures err { IfErr result (RefusesAngelic lts.now) }
 {
     let states = lts.states();
     let start = lts.start();
-    if lts.moves().len() > MOST_MOVES {
+    if lts.moves().len() > MOST_MOVES as usize {
         return Err(ShapeError::TooManyMoves);
     }
     let moves = completed(alloc, lts)?;
     match Lts::build(alloc, states, start, labels, moves) {
-        Ok(lts) => Ok(lts),
+        Ok(built) => Ok(read_as(alloc, built, lts.divergence())?),
         // the parts of a system make a system, so only memory can be wanting
         Err(_) => Err(ShapeError::Memory),
     }
 }
 
+/// The system, whose cycles of moves with Tau are read in this way.
+fn read_as(alloc: Global, built: Lts, divergence: Divergence) -> Result<Lts, Memory>
+    requires { built.divergence ≡ Divergence.Refuse }
+    ensures { IfOk result (IsReadAs divergence built) }
+{
+    match divergence {
+        Divergence::Refuse => Ok(built),
+        Divergence::Quiet => built.quieted(alloc),
+    }
+}
+
 /// The moves of the system, and the loops.
 fn completed(alloc: Global, lts: &Lts) -> Result<Moves, ShapeError>
-    requires { length lts.now.moves ≤ 1048576 }
+    requires { length lts.now.moves ≤ MOST_MOVES }
     ensures ok { IfOk result (AreLoopsUpTo lts.now lts.now.inputs 0) }
     ensures err { IfErr result (RefusesAngelic lts.now) }
 {
     let states = lts.states();
     let inputs = lts.inputs();
-    let arrivals = arrivals_of(alloc, lts)?;
+    let groups = groups_of(alloc, lts)?;
     let mut search = Search::new(alloc, states)?;
     let mut moves = copied(alloc, lts)?;
     'inputs: for input in 0..inputs {
-        add_loops(alloc, lts, &arrivals, &mut search, &mut moves, input)?;
+        add_loops(alloc, lts, &groups, &mut search, &mut moves, input)?;
     }
     Ok(moves)
 }
@@ -102,12 +112,12 @@ fn copied(alloc: Global, lts: &Lts) -> Result<Moves, Memory>
 fn add_loops(
     alloc: Global,
     lts: &Lts,
-    arrivals: &Arrivals,
+    groups: &Groups,
     search: &mut Search,
     moves: &mut Moves,
     input: u32,
 ) -> Result<(), ShapeError>
-    requires arrivals { AreArrivals lts.now.states lts.now.moves (length lts.now.moves) arrivals.now.last.items arrivals.now.before.items }
+    requires groups { AreGroups lts.now (length lts.now.moves) groups.now.last.items groups.now.before.items }
     requires states { search.old.states ≡ lts.now.states }
     requires input { input < lts.now.inputs }
     requires loops { AreLoopsUpTo lts.now input 0 moves.old }
@@ -116,7 +126,7 @@ fn add_loops(
     ensures err { IfErr result (RefusesAngelic lts.now) }
 {
     let states = lts.states();
-    takers(lts, arrivals, search, input)?;
+    takers(lts, groups, search, input)?;
     let able = marks_of(alloc, search, states)?;
     'states: for state in 0..states {
         if !able[state as usize] {
@@ -129,10 +139,10 @@ fn add_loops(
 /// Adds one loop, where there is room for it.
 fn add_loop(moves: &mut Moves, state: u32, label: u32) -> Result<(), ShapeError>
     ensures moves { OnOk result (moves.new ≡ moves.old ++ loop_with state label ∷ []) }
-    ensures within { OnOk result (length moves.new ≤ 1048576) }
+    ensures within { OnOk result (length moves.new ≤ MOST_MOVES) }
     ensures err { IfErr result (IsFull moves.old) }
 {
-    if moves.as_slice().len() >= MOST_MOVES {
+    if moves.as_slice().len() >= MOST_MOVES as usize {
         return Err(ShapeError::TooManyMoves);
     }
     moves.push(Move {

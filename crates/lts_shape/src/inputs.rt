@@ -3,12 +3,12 @@ ghost use Rattle.std.specs.Prelude.{◌≡◌, ◌↔◌, ℕ, ◌<◌, None, Bo
 ghost use Rattle.lts_base.specs.System.{Takes};
 ghost use Rattle.lts_base.specs.Shape.{IsInputEnabled};
 ghost use Rattle.state_sets.specs.Finds.{Adds};
-ghost use Rattle.lts_shape.specs.Arrivals.{AreArrivals};
+ghost use Rattle.lts_shape.specs.Groups.{AreGroups};
 ghost use Rattle.lts_shape.specs.Marks.{AreMarksOf};
 ghost use Rattle.lts_shape.specs.Inputs.{EndsSome, CanTake, AllCanTake, IsLeastLacking, IsFirstMissing, AreTakers};
 ghost use Rattle.lts_shape.specs.Choice.{IsFirstUnmarked, with_lacking};
 
-use crate::arrivals::{Arrivals, add_sources, arrivals_of};
+use crate::groups::{Groups, add_sources, add_takers, groups_of};
 use crate::reached::{marks_of, reached};
 use lts_base::{Act, Lts, Memory};
 use state_sets::Search;
@@ -24,11 +24,11 @@ pub fn missing_input(alloc: Global, lts: &Lts) -> Result<Option<(u32, u32)>, Mem
     let states = lts.states();
     let inputs = lts.inputs();
     let reached = reached(alloc, lts)?;
-    let arrivals = arrivals_of(alloc, lts)?;
+    let groups = groups_of(alloc, lts)?;
     let mut search = Search::new(alloc, states)?;
     let mut first = None;
     'inputs: for input in 0..inputs {
-        takers(lts, &arrivals, &mut search, input)?;
+        takers(lts, &groups, &mut search, input)?;
         let able = marks_of(alloc, &search, states)?;
         let lacking = first_unmarked(&reached, &able, states);
         first = earlier(first, lacking, input);
@@ -71,42 +71,23 @@ fn earlier(first: Option<(u32, u32)>, lacking: Option<u32>, input: u32) -> Optio
 /// Finds the states that can take the input. What the search held before is forgotten.
 pub(crate) fn takers(
     lts: &Lts,
-    arrivals: &Arrivals,
+    groups: &Groups,
     search: &mut Search,
     input: u32,
 ) -> Result<(), Memory>
-    requires arrivals { AreArrivals lts.now.states lts.now.moves (length lts.now.moves) arrivals.now.last.items arrivals.now.before.items }
+    requires groups { AreGroups lts.now (length lts.now.moves) groups.now.last.items groups.now.before.items }
     requires states { search.old.states ≡ lts.now.states }
+    requires input { input < lts.now.inputs }
     ensures states { search.new.states ≡ search.old.states }
     ensures takers { OnOk result (AreTakers lts.now input search.new.found) }
 {
     search.clear();
-    add_takers(lts, search, input)?;
+    add_takers(lts, groups, search, input)?;
     let mut at = 0;
     'finds: while at < search.len() {
         let state = search.at(at);
-        add_sources(lts, arrivals, search, state)?;
+        add_sources(lts, groups, search, state)?;
         at += 1;
-    }
-    Ok(())
-}
-
-/// Adds the states that have a move with the label.
-fn add_takers(lts: &Lts, search: &mut Search, label: u32) -> Result<(), Memory>
-    requires states { search.old.states ≡ lts.now.states }
-    ensures states { search.new.states ≡ search.old.states }
-    ensures adds { OnOk result (Adds (λ q. Takes lts.now q label) search.old.found search.new.found) }
-{
-    let moves = lts.moves();
-    'moves: for m in moves {
-        match m.act {
-            Act::Tau => {}
-            Act::Label(other) => {
-                if other == label {
-                    search.add(m.from)?;
-                }
-            }
-        }
     }
     Ok(())
 }

@@ -2,9 +2,9 @@
 //! completion by loops.
 #![tactic(auto)]
 
-mod arrivals;
 pub mod completion;
 pub mod cycle;
+mod groups;
 pub mod inputs;
 mod peel;
 mod reached;
@@ -12,6 +12,3 @@ mod reached;
 pub use completion::{ShapeError, angelic};
 pub use cycle::tau_cycle;
 pub use inputs::missing_input;
-
-#[cfg(test)]
-mod tests;

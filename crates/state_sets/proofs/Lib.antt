@@ -1,4 +1,6 @@
 pub mod MarkLaws
 pub mod Reaching
+pub mod ActLaws
 pub mod OfferLaws
-pub mod CoinLabels
+pub mod AfterLaws
+pub mod TauLaws

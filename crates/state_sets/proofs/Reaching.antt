@@ -1,6 +1,5 @@
 -- Laws on what the steps of a search reach.
 use Rattle.std.proofs.Common.{◌≡◌, ℕ, ◌+◌, ◌<◌, ◌≤◌, List, [], ◌∷◌, ◌++◌, length, get_or, inl, inr, All, Contains, refl, sym, ap, subst, ◌∙◌, arith}
-use Rattle.std.specs.List.Sorted.{IsStrictlyIncreasing}
 use Rattle.std.proofs.lemmas.List.{append-nil, append_assoc, get_or_append_left, length-append, get_or_default}
 use Rattle.std.proofs.lemmas.List.Elements.{All-contains, All-push, All-append, All-nil, All-weaker, Contains-push, Contains-append_left, Contains-get_or}
 use Rattle.std.proofs.lemmas.Bool.{cases_lt}
@@ -15,7 +14,7 @@ use Rattle.lts_base.specs.After.{IsSetAfter}
 use Rattle.lts_base.specs.Next.{IsNext, Reaches}
 use Rattle.lts_base.proofs.Leads.{Leads-here, Leads-append, Leads-tau, Leads-closed, IsSeen-input, IsSeen-output, IsSeen-delta, IsSeen-from_input, IsSeen-from_output, IsSeen-from_quiet, HasMove-from_parts}
 use Rattle.lts_base.proofs.ListLaws.{Contains-none, none_contained}
-use Rattle.state_sets.specs.Finds.{IsAdded, Adds, IsReached, AreReached}
+use Rattle.state_sets.specs.Finds.{IsAdded, Adds, IsReached, AreReached, AreNext, IsSorted}
 
 -- one state was added
 pub Contains-added : (old : List ℕ) (q : ℕ) (new : List ℕ) → IsAdded old q new → Contains new q
@@ -41,6 +40,23 @@ pub IsSpreading-none : (P : ℕ → Type 0) (act : Act) (old : List ℕ) (ms : L
 IsSpreading-none P act old ms = record {
   kept = ([], sym (append-nil old), All-nil P);
   looked = λ k d below. absurd (omega (arith, below));
+}
+
+-- the moves before this place carry other actions
+pub IsSpreading-from : (P : ℕ → Type 0) (act : Act) (old : List ℕ) (ms : List Move) (i : ℕ) → ((k : ℕ) (d : Move) → k < i → (get_or ms k d).act ≡ act → ⊥) → IsSpreading P act old old ms i
+IsSpreading-from P act old ms i others = record {
+  kept = ([], sym (append-nil old), All-nil P);
+  looked = λ k d below carries. absurd (others k d below carries);
+}
+
+-- the moves from this place on carry other actions
+pub IsSpreading-rest : (P : ℕ → Type 0) (act : Act) (old new : List ℕ) (ms : List Move) (i : ℕ) → ((k : ℕ) (d : Move) → i ≤ k → k < length ms → (get_or ms k d).act ≡ act → ⊥) → IsSpreading P act old new ms i → IsSpreading P act old new ms (length ms)
+IsSpreading-rest P act old new ms i others is = record {
+  kept = is.kept;
+  looked = λ k d below carries. elim (cases_lt k i) [
+    | inl earlier ↦ is.looked k d earlier carries
+    | inr late ↦ absurd (others k d late below carries)
+  ];
 }
 
 -- the next move carries another action
@@ -203,18 +219,11 @@ IsClosing-all s seeds found n over is =
           r q (rw grown (Contains-append_left seeds more r inside)) leads;
     }
 
--- a list with the same members
-pub record IsSorted (found sorted : List ℕ) : Type 0 where
-  pub rising : IsStrictlyIncreasing sorted
-  pub each : All (Contains found) sorted
-  pub all : All (Contains sorted) found
-
--- a step, then moves with Tau, in ascending order: the next list
-pub IsNext-from_reached : (s : System) (x : Item) (ps seen found sorted : List ℕ) → AreReached (λ p r. IsSeen s p x r) ps seen → AreReached (λ r q. Leads s r [] q) seen found → IsSorted found sorted → IsNext s x ps sorted
-IsNext-from_reached s x ps seen found sorted steps closure is = record {
-  rising = is.rising;
-  each = All-weaker (Contains found) (Reaches s ps x) (λ q inside. into q (All-contains (IsReached (λ r q. Leads s r [] q) seen) found q closure.each inside)) sorted is.each;
-  all = λ q reaches. back q reaches;
+-- a step, then moves with Tau: the members of the next list
+pub AreNext-from_reached : (s : System) (x : Item) (ps seen found : List ℕ) → AreReached (λ p r. IsSeen s p x r) ps seen → AreReached (λ r q. Leads s r [] q) seen found → AreNext s x ps found
+AreNext-from_reached s x ps seen found steps closure = record {
+  each = All-weaker (IsReached (λ r q. Leads s r [] q) seen) (Reaches s ps x) into found closure.each;
+  all = back;
 }
   where
     into : (q : ℕ) → IsReached (λ r q. Leads s r [] q) seen q → Reaches s ps x q
@@ -222,9 +231,31 @@ IsNext-from_reached s x ps seen found sorted steps closure is = record {
         let (p, member, step) = All-contains (IsReached (λ p r. IsSeen s p x r) ps) seen r steps.each inside in
         (p, r, member, step, leads)
 
-    back : (q : ℕ) → Reaches s ps x q → Contains sorted q
-    back q (p, r, member, step, leads) =
-        All-contains (Contains sorted) found q is.all (closure.all r q (steps.all p r member step) leads)
+    back : (q : ℕ) → Reaches s ps x q → Contains found q
+    back q (p, r, member, step, leads) = closure.all r q (steps.all p r member step) leads
+
+-- the members of the next list, in ascending order: the next list
+pub IsNext-from_found : (s : System) (x : Item) (ps found sorted : List ℕ) → AreNext s x ps found → IsSorted found sorted → IsNext s x ps sorted
+IsNext-from_found s x ps found sorted are is = record {
+  rising = is.rising;
+  each = All-weaker (Contains found) (Reaches s ps x) (λ q inside. All-contains (Reaches s ps x) found q are.each inside) sorted is.each;
+  all = λ q reaches. All-contains (Contains sorted) found q is.all (are.all q reaches);
+}
+
+one_item : (found : List ℕ) (q : ℕ) → length found ≡ 1 → q ≡ get_or found 0 0 → found ≡ q ∷ []
+one_item [] q e is = absurd (omega (arith, e))
+one_item (y ∷ []) q e is = rw is refl
+one_item (y ∷ z ∷ zs) q e is = absurd (omega (arith, e))
+
+-- one state was found: it alone is the next list
+pub IsNext-one : (s : System) (x : Item) (ps found : List ℕ) (q : ℕ) → length found ≡ 1 → q ≡ get_or found 0 0 → AreNext s x ps found → IsNext s x ps (q ∷ [])
+IsNext-one s x ps found q e is are =
+    let same = one_item found q e is in
+    record {
+      rising = λ k below. absurd (omega (arith, below));
+      each = rw same at are.each;
+      all = λ r reaches. rw same at (are.all r reaches);
+    }
 
 -- moves with Tau from the start, in ascending order: the set after the empty trace
 pub IsSetAfter-from_reached : (s : System) (seeds found sorted : List ℕ) → IsAdded [] s.start seeds → AreReached (λ r q. Leads s r [] q) seeds found → IsSorted found sorted → IsSetAfter s [] sorted

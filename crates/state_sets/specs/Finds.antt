@@ -1,6 +1,10 @@
--- What a search has found, and what its steps add.
-use Rattle.std.specs.Prelude.{◌≡◌, ℕ, ◌^◌, ◌<◌, List, [], ◌∷◌, ◌++◌, length, All, Contains, Bool, true, false, ◌⊎◌, ◌≢◌, slice_index_or as get_or}
+-- Promise: what a search has found, what its steps add, and the labels that a list takes.
+use Rattle.std.specs.Prelude.{◌≡◌, ℕ, ◌^◌, ◌<◌, ◌≤◌, List, [], ◌∷◌, ◌++◌, length, All, Contains, Bool, true, false, ◌⊎◌, ◌≢◌, slice_index_or as get_or}
 use Rattle.std.specs.List.{count_by, AllPairs}
+use Rattle.std.specs.List.Sorted.{IsStrictlyIncreasing}
+use Rattle.lts_base.specs.declared.item.Item.{Item}
+use Rattle.lts_base.specs.System.{System, Takes}
+use Rattle.lts_base.specs.Next.{Reaches}
 
 -- a search: how many states there are, and the states found in the order of their finds
 pub record Finds : Type 0 where
@@ -32,3 +36,25 @@ IsReached R ps r = (p : ℕ) × Contains ps p × R p r
 pub record AreReached (R : ℕ → ℕ → Type 0) (ps rs : List ℕ) : Type 0 where
   pub each : All (IsReached R ps) rs
   pub all : (p r : ℕ) → Contains ps p → R p r → Contains rs r
+
+-- a move with the label leaves some member of the list
+abbrev pub IsTakenIn : System → List ℕ → ℕ → Type 0
+IsTakenIn s ps a = (q : ℕ) × Contains ps q × Takes s q a
+
+-- n is the least number with P from `from` on and below `most`; where there is none, it is `most`
+pub record IsLeastFrom (P : ℕ → Type 0) (from most n : ℕ) : Type 0 where
+  pub low : from ≤ n
+  pub high : n ≤ most
+  pub none : (a : ℕ) → from ≤ a → a < n → ¬ P a
+  pub some : (n ≡ most) ⊎ P n
+
+-- the states found are those that the item, and then moves with Tau, reach from the members of ps, in any order
+pub record AreNext (s : System) (x : Item) (ps found : List ℕ) : Type 0 where
+  pub each : All (Reaches s ps x) found
+  pub all : (q : ℕ) → Reaches s ps x q → Contains found q
+
+-- a list with the same members, in ascending order
+pub record IsSorted (found sorted : List ℕ) : Type 0 where
+  pub rising : IsStrictlyIncreasing sorted
+  pub each : All (Contains found) sorted
+  pub all : All (Contains sorted) found

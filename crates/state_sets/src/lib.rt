@@ -2,15 +2,18 @@
 #![tactic(auto)]
 
 pub mod compared;
+pub mod moves;
 pub mod offers;
 pub mod search;
 pub mod set;
 pub mod step;
+pub mod taus;
 
+pub use moves::label_from;
 pub use offers::{allowed_by, shown_by};
 pub use search::Search;
-pub use set::{StateSet, allows, opening, opening_with, post, post_with, shows};
-pub use step::{next_states, opening_states};
-
-#[cfg(test)]
-mod tests;
+pub use set::{
+    StateSet, allows, found_set, only_state, opening, opening_with, post, post_with, shows,
+};
+pub use step::{find_next, next_states, opening_states};
+pub use taus::Taus;

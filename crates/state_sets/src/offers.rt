@@ -4,6 +4,7 @@ ghost use Rattle.lts_base.specs.declared.action.Act.TheVariants.{Label};
 ghost use Rattle.lts_base.specs.System.{IsItemOf, IsQuiet, IsStable, Takes, HasMove};
 ghost use Rattle.lts_base.specs.After.{Shows, Allows, AllStableTake};
 
+use crate::moves::first_from;
 use crate::step::is_same;
 use lts_base::{Act, Item, Lts, Mode, is_quiet};
 
@@ -97,15 +98,14 @@ fn takes_if_stable(lts: &Lts, state: u32, label: u32) -> bool
 }
 
 /// Whether a move with the action leaves the state.
-fn has_move(lts: &Lts, state: u32, act: Act) -> bool
+pub(crate) fn has_move(lts: &Lts, state: u32, act: Act) -> bool
     requires { state < lts.now.states }
     ensures { IsTrue result ↔ ((q : ℕ) × HasMove lts.now state act q) }
 {
     let moves = lts.moves_of(state);
-    'moves: for m in moves {
-        if is_same(m.act, act) {
-            return true;
-        }
+    let place = first_from(moves, act);
+    if place >= moves.len() {
+        return false;
     }
-    false
+    is_same(moves[place].act, act)
 }

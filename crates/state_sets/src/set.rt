@@ -1,10 +1,12 @@
 //! Sets of states after traces as values of their own.
-ghost use Rattle.std.specs.Prelude.{◌≡◌, ℕ, ◌<◌, ◌↔◌, List, [], ◌∷◌, ◌++◌, All, IsTrue, IfOk};
+ghost use Rattle.std.specs.Prelude.{◌≡◌, ℕ, ◌<◌, ◌↔◌, List, [], ◌∷◌, ◌++◌, All, IsTrue, IfOk, IfSome};
 ghost use Rattle.std.specs.List.Sorted.{IsStrictlyIncreasing};
 ghost use Rattle.lts_base.specs.declared.item.Item.{Item as TheItem};
 ghost use Rattle.lts_base.specs.System.{IsItemOf};
-ghost use Rattle.lts_base.specs.After.{IsSetAfter, Shows, Allows};
+ghost use Rattle.lts_base.specs.After.{IsSetAfter, Shows, ShowsAfter, Allows};
+ghost use Rattle.lts_base.specs.Conformance.{IsAllowed};
 ghost use Rattle.lts_base.specs.Next.{IsNext};
+ghost use Rattle.state_sets.specs.Finds.{IsSorted};
 
 use crate::offers::{allowed_by, shown_by};
 use crate::search::Search;
@@ -96,11 +98,32 @@ pub fn post_with(
     Ok(StateSet { states })
 }
 
+/// The set of the states that a search has found.
+pub fn found_set(alloc: Global, search: &Search) -> Result<StateSet, Memory>
+    ensures sorted { IfOk result (IsSorted search.now.found) }
+    ensures within { IfOk result (All (λ (q : ℕ). q < search.now.states)) }
+{
+    let states = search.sorted(alloc)?;
+    Ok(StateSet { states })
+}
+
+/// The one state of a set that has no other.
+pub fn only_state(set: &StateSet) -> Option<u32>
+    ensures { IfSome result (λ q. set.now ≡ q ∷ []) }
+{
+    let states = set.states();
+    if states.len() != 1 {
+        return None;
+    }
+    Some(states[0])
+}
+
 /// Whether some member of the set gives the item; of an input none does.
 pub fn shows(lts: &Lts, set: &StateSet, item: Item) -> bool
     requires set { All (λ (q : ℕ). q < lts.now.states) set.now }
     requires item { IsItemOf lts.now item }
-    ensures { IsTrue result ↔ Shows lts.now set.now item }
+    ensures set { IsTrue result ↔ Shows lts.now set.now item }
+    ensures after { (σ : List TheItem) → IsSetAfter lts.now σ set.now → (IsTrue result ↔ ShowsAfter lts.now σ item) }
 {
     shown_by(lts, set.states(), item)
 }
@@ -110,7 +133,9 @@ pub fn shows(lts: &Lts, set: &StateSet, item: Item) -> bool
 pub fn allows(lts: &Lts, mode: Mode, set: &StateSet, item: Item) -> bool
     requires set { All (λ (q : ℕ). q < lts.now.states) set.now }
     requires item { IsItemOf lts.now item }
-    ensures { IsTrue result ↔ Allows mode lts.now set.now item }
+    ensures set { IsTrue result ↔ Allows mode lts.now set.now item }
+    ensures after { (σ : _) → IsSetAfter lts.now σ set.now → IsAllowed mode lts.now σ → (IsTrue result ↔ IsAllowed mode lts.now (σ ++ item ∷ [])) }
 {
+    let _ = lts.states();
     allowed_by(lts, mode, set.states(), item)
 }

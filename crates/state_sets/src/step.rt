@@ -1,13 +1,16 @@
 //! One step from a set of states to the next, as lists of states.
-ghost use Rattle.std.specs.Prelude.{◌≡◌, ℕ, ◌<◌, ◌↔◌, [], ◌∷◌, All, IsTrue, OnOk, IfOk};
+ghost use Rattle.std.specs.Prelude.{◌≡◌, ℕ, ◌<◌, ◌↔◌, [], ◌∷◌, All, IsTrue, OnOk, IfOk, IfSome};
 ghost use Rattle.lts_base.specs.System.{IsItemOf, IsQuiet, HasMove};
 ghost use Rattle.lts_base.specs.After.{IsSetAfter};
 ghost use Rattle.lts_base.specs.Next.{IsNext};
 ghost use Rattle.lts_base.specs.Path.{Leads, IsSeen};
-ghost use Rattle.lts_base.specs.declared.action.Act.TheVariants.{Label};
-ghost use Rattle.state_sets.specs.Finds.{Adds, AreReached};
+ghost use Rattle.lts_base.specs.declared.action.Act.TheVariants.{Tau, Label};
+ghost use Rattle.state_sets.specs.Finds.{Adds, AreReached, AreNext};
+ghost use Rattle.state_sets.specs.Taus.{AreTauFlags};
 
+use crate::moves::first_from;
 use crate::search::Search;
+use crate::taus::Taus;
 use lts_base::{Act, Item, Lts, Memory, is_quiet};
 use std::alloc::Global;
 
@@ -21,7 +24,7 @@ pub fn opening_states(alloc: Global, lts: &Lts, search: &mut Search) -> Result<V
     search.clear();
     let start = lts.start();
     search.add(start)?;
-    close(lts, search)?;
+    close(lts, None, search)?;
     let states = search.sorted(alloc)?;
     Ok(states)
 }
@@ -42,11 +45,32 @@ pub fn next_states(
     ensures next { IfOk result (λ v. IsNext lts.now item set.now v.items) }
     ensures within { IfOk result (λ v. All (λ (q : ℕ). q < lts.now.states) v.items) }
 {
-    search.clear();
-    see(lts, search, set, item)?;
-    close(lts, search)?;
+    find_next(lts, None, search, set, item)?;
     let states = search.sorted(alloc)?;
     Ok(states)
+}
+
+/// Finds the states that the item, and then moves with Tau, reach from the members of the set.
+/// What the search held before is forgotten. With the flags of the system it passes over the moves
+/// of stable states that it finds.
+pub fn find_next(
+    lts: &Lts,
+    taus: Option<&Taus>,
+    search: &mut Search,
+    set: &[u32],
+    item: Item,
+) -> Result<(), Memory>
+    requires states { search.old.states ≡ lts.now.states }
+    requires taus { IfSome taus (λ t. AreTauFlags lts.now t.now) }
+    requires set { All (λ (q : ℕ). q < lts.now.states) set.now }
+    requires item { IsItemOf lts.now item }
+    ensures states { search.new.states ≡ search.old.states }
+    ensures found { OnOk result (AreNext lts.now item set.now search.new.found) }
+{
+    search.clear();
+    see(lts, search, set, item)?;
+    close(lts, taus, search)?;
+    Ok(())
 }
 
 /// Finds the states that one step, seen as the item, leads to.
@@ -108,17 +132,35 @@ fn add_quiet(lts: &Lts, search: &mut Search, state: u32) -> Result<(), Memory>
 }
 
 /// Adds all states that moves with Tau lead to from those found.
-fn close(lts: &Lts, search: &mut Search) -> Result<(), Memory>
+fn close(lts: &Lts, taus: Option<&Taus>, search: &mut Search) -> Result<(), Memory>
     requires states { search.old.states ≡ lts.now.states }
+    requires taus { IfSome taus (λ t. AreTauFlags lts.now t.now) }
     ensures states { search.new.states ≡ search.old.states }
     ensures closure { OnOk result (AreReached (λ r q. Leads lts.now r [] q) search.old.found search.new.found) }
 {
     let mut at = 0;
     'finds: while at < search.len() {
         let state = search.at(at);
-        spread(lts, search, state, Act::Tau)?;
+        spread_tau(lts, taus, search, state)?;
         at += 1;
     }
+    Ok(())
+}
+
+/// Adds the states that the state's moves with Tau lead to.
+fn spread_tau(lts: &Lts, taus: Option<&Taus>, search: &mut Search, state: u32) -> Result<(), Memory>
+    requires states { search.old.states ≡ lts.now.states }
+    requires taus { IfSome taus (λ t. AreTauFlags lts.now t.now) }
+    requires state { state < lts.now.states }
+    ensures states { search.new.states ≡ search.old.states }
+    ensures adds { OnOk result (Adds (HasMove lts.now state Tau) search.old.found search.new.found) }
+{
+    if let Some(flags) = taus {
+        if !flags.leaves(state) {
+            return Ok(());
+        }
+    }
+    spread(lts, search, state, Act::Tau)?;
     Ok(())
 }
 
@@ -130,10 +172,13 @@ fn spread(lts: &Lts, search: &mut Search, state: u32, act: Act) -> Result<(), Me
     ensures adds { OnOk result (Adds (HasMove lts.now state act) search.old.found search.new.found) }
 {
     let moves = lts.moves_of(state);
-    'moves: for m in moves {
-        if is_same(m.act, act) {
-            search.add(m.to)?;
+    let from = first_from(moves, act);
+    'moves: for place in from..moves.len() {
+        let m = moves[place];
+        if !is_same(m.act, act) {
+            return Ok(());
         }
+        search.add(m.to)?;
     }
     Ok(())
 }

@@ -1,4 +1,4 @@
--- Blanks at the ends of a text.
+-- Promise: blanks at the ends of a text.
 use Rattle.std.specs.Prelude.{ℕ, Bool, ◌==◌, ◌||◌, List, [], ◌∷◌, if◌then◌else◌, reverse}
 
 -- the byte is a blank: a space or a tab

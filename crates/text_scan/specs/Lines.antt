@@ -1,4 +1,4 @@
--- The lines of a text.
+-- Promise: the lines of a text.
 use Rattle.std.specs.Prelude.{ℕ, ◌-◌, ◌==◌, List, [], ◌∷◌, length, take, drop, if◌then◌else◌}
 use Rattle.std.specs.Str.{bytes_eq}
 

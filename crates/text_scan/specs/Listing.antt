@@ -1,6 +1,7 @@
--- Files with a label on each line.
-use Rattle.std.specs.Prelude.{◌≡◌, ℕ, ◌+◌, ◌<◌, ◌≤◌, Bool, List, [], ◌∷◌, ◌++◌, length, map, filter, All, true, false, ◌⊎◌}
+-- Promise: files with a label on each line, and their first fault.
+use Rattle.std.specs.Prelude.{◌≡◌, ℕ, ◌+◌, ◌<◌, ◌≤◌, Bool, List, [], ◌∷◌, ◌++◌, length, map, filter, All, true, false, Result, MatchResult, ◌⊎◌}
 use Rattle.std.specs.Str.{IsUtf8}
+use Rattle.lts_base.specs.declared.limits.TheConstants.{MOST_LABEL_BYTES}
 use Rattle.lts_base.specs.Alphabet.{IsLabel}
 use Rattle.text_scan.specs.declared.error.LinesError.{LinesError}
 use Rattle.text_scan.specs.declared.error.LinesError.TheVariants.{Line, LabelLong, NotUtf8, Memory}
@@ -24,11 +25,11 @@ pub record IsListing (content : List ℕ) (labels : List (List ℕ)) : Type 0 wh
 abbrev pub IsPlain : List ℕ → Type 0
 IsPlain text = All (λ b. 32 ≤ b) text
 
--- the fault of the text on line k: it isn't UTF-8; or else a byte is below 32; or else it has more than 1,024 bytes
+-- the fault of the text on line k: it isn't UTF-8; or else a byte is below 32; or else it has more than `MOST_LABEL_BYTES`
 abbrev pub IsTextFault : List ℕ → ℕ → LinesError → Type 0
-IsTextFault text k (NotUtf8 n) = (n ≡ k) × (IsUtf8 text → ⊥)
-IsTextFault text k (Line n) = (n ≡ k) × IsUtf8 text × (IsPlain text → ⊥)
-IsTextFault text k (LabelLong n) = (n ≡ k) × IsUtf8 text × IsPlain text × (1024 < length text)
+IsTextFault text k (NotUtf8 n) = (n ≡ k) × (¬ IsUtf8 text)
+IsTextFault text k (Line n) = (n ≡ k) × IsUtf8 text × (¬ IsPlain text)
+IsTextFault text k (LabelLong n) = (n ≡ k) × IsUtf8 text × IsPlain text × (MOST_LABEL_BYTES < length text)
 IsTextFault text k Memory = Unit {0}
 
 -- the texts with one more label; an empty text adds nothing
@@ -50,3 +51,11 @@ RefusesListing content Memory = Unit {0}
 RefusesListing content (NotUtf8 n) = IsFirstFault content (NotUtf8 n)
 RefusesListing content (Line n) = IsFirstFault content (Line n)
 RefusesListing content (LabelLong n) = IsFirstFault content (LabelLong n)
+
+-- the texts are these labels, or memory ran out
+abbrev pub AreThese : List (List ℕ) → Result (List (List ℕ)) LinesError → Type 0
+AreThese labels result = MatchResult result (λ texts. texts ≡ labels) (λ e. e ≡ Memory)
+
+-- this is why there are no texts, or memory ran out
+abbrev pub IsRefusedBy : LinesError → Result (List (List ℕ)) LinesError → Type 0
+IsRefusedBy e result = MatchResult result (λ _. ⊥) (λ f. (f ≡ e) ⊎ (f ≡ Memory))

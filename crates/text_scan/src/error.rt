@@ -1,6 +1,5 @@
 //! Why a list of labels is refused.
 use lts_base::Memory;
-use std::alloc::AllocError;
 use thiserror::Error;
 
 /// Why a content lists no labels. Lines are counted from 1.
@@ -9,7 +8,7 @@ pub enum LinesError {
     /// A line has a byte below 32.
     #[error("line {0}")]
     Line(u32),
-    /// A line has more than 1,024 bytes.
+    /// A line has more than `MOST_LABEL_BYTES` bytes.
     #[error("label-long {0}")]
     LabelLong(u32),
     /// A line isn't UTF-8.
@@ -27,17 +26,6 @@ impl From<Memory> for LinesError {
     ghost from_gives = { λ _ e. e ≡ OutOfMemory };
 
     fn from(_error: Memory) -> LinesError {
-        LinesError::Memory
-    }
-}
-
-impl From<AllocError> for LinesError {
-    ghost use Rattle.std.specs.Prelude.{◌≡◌};
-    ghost use Rattle.text_scan.specs.declared.error.LinesError.TheVariants.{Memory as OutOfMemory};
-
-    ghost from_gives = { λ _ e. e ≡ OutOfMemory };
-
-    fn from(_error: AllocError) -> LinesError {
         LinesError::Memory
     }
 }

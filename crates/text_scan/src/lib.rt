@@ -7,12 +7,10 @@ mod error;
 mod line;
 mod listing;
 mod number;
-#[cfg(test)]
-mod tests;
 
 pub use blank::trim;
 pub use cut::{cut_at, cut_at_last, next_line};
 pub use error::LinesError;
 pub use line::{split_line, without_cr};
 pub use listing::{is_plain, read_list};
-pub use number::decimal;
+pub use number::{MOST_DIGITS, decimal};

@@ -1,12 +1,13 @@
 //! Files with a label on each line.
-ghost use Rattle.std.specs.Prelude.{◌≡◌, ◌↔◌, ◌⊎◌, ℕ, ◌-◌, ◌^◌, ◌<◌, ◌≤◌, List, length, All, IsTrue, MatchResult};
+ghost use Rattle.std.specs.Prelude.{◌≡◌, ◌↔◌, ◌-◌, ◌^◌, ◌<◌, length, IsTrue, MatchResult};
 ghost use Rattle.lts_base.specs.Alphabet.{IsLabel};
 ghost use Rattle.text_scan.specs.Lines.{lines_of};
-ghost use Rattle.text_scan.specs.Listing.{IsPlain, IsListing, AddsText, IsTextFault, RefusesListing};
+ghost use Rattle.text_scan.specs.Listing.{IsPlain, IsListing, AddsText, AreThese, IsRefusedBy, IsTextFault, RefusesListing};
 
 use crate::error::LinesError;
 use crate::line::{split_line, without_cr};
-use lts_base::{Text, Texts};
+use lts_base::PackedTexts;
+use lts_base::limits::MOST_LABEL_BYTES;
 use std::alloc::Global;
 use std::str;
 
@@ -19,39 +20,39 @@ pub fn is_plain(text: &[u8]) -> bool
 
 /// The labels of a list file: one on each line, empty lines are skipped. There are fewer than
 /// 2^32 - 1 lines.
-pub fn read_list(alloc: Global, bytes: &[u8]) -> Result<Texts, LinesError>
+pub fn read_list(alloc: Global, bytes: &[u8]) -> Result<PackedTexts, LinesError>
     requires { length (lines_of bytes.now) < 2 ^ 32 - 1 }
     ensures read { MatchResult result (IsListing bytes.now) (RefusesListing bytes.now) }
-    ensures only { (labels : List (List ℕ)) → IsListing bytes.now labels → MatchResult result (λ texts. texts ≡ labels) (λ e. e ≡ LinesError.Memory) }
-    ensures fault { (e : _) → RefusesListing bytes.now e → (e ≡ LinesError.Memory → ⊥) → MatchResult result (λ _. ⊥) (λ f. (f ≡ e) ⊎ (f ≡ LinesError.Memory)) }
+    ensures only { (labels : _) → IsListing bytes.now labels → AreThese labels result }
+    ensures fault { (e : _) → RefusesListing bytes.now e → ¬ (e ≡ LinesError.Memory) → IsRefusedBy e result }
 {
     read_lines(alloc, bytes)
 }
 
-fn read_lines(alloc: Global, bytes: &[u8]) -> Result<Texts, LinesError>
+fn read_lines(alloc: Global, bytes: &[u8]) -> Result<PackedTexts, LinesError>
     requires { length (lines_of bytes.now) < 2 ^ 32 - 1 }
     ensures { MatchResult result (IsListing bytes.now) (RefusesListing bytes.now) }
 {
-    let mut texts = Texts::new(alloc);
+    let mut texts = PackedTexts::new(alloc);
     let mut rest = bytes;
     let mut number: u32 = 0;
     while let Some((line, after)) = split_line(rest) {
         number += 1;
         let text = without_cr(line);
-        add(alloc, &mut texts, text, number)?;
+        add(&mut texts, text, number)?;
         rest = after;
     }
     Ok(texts)
 }
 
-fn add(alloc: Global, texts: &mut Texts, text: &[u8], number: u32) -> Result<(), LinesError>
+fn add(texts: &mut PackedTexts, text: &[u8], number: u32) -> Result<(), LinesError>
     ensures { MatchResult result (λ _. AddsText texts.old text.now texts.new) (IsTextFault text.now number) }
 {
     if text.is_empty() {
         return Ok(());
     }
     test_label(text, number)?;
-    texts.push(Text::from_vec(Vec::from_slice(alloc, text)?))?;
+    texts.push(text)?;
     Ok(())
 }
 
@@ -65,7 +66,7 @@ fn test_label(text: &[u8], number: u32) -> Result<(), LinesError>
     if !is_plain(text) {
         return Err(LinesError::Line(number));
     }
-    if text.len() > 1024 {
+    if text.len() > MOST_LABEL_BYTES {
         return Err(LinesError::LabelLong(number));
     }
     Ok(())

@@ -2,23 +2,26 @@
 ghost use Rattle.std.specs.Prelude.{◌≡◌, ℕ, ◌+◌, ◌*◌, ◌^◌, ◌<◌, ◌≤◌, MatchOption};
 ghost use Rattle.std.specs.Char.{digit_value};
 ghost use Rattle.std.specs.Str.Parse.{AllDigits, digits_value};
-ghost use Rattle.text_scan.specs.Decimal.{IsDecimal};
+ghost use Rattle.text_scan.specs.Decimal.{HasValue, IsDecimal};
+
+/// The most digits of a decimal, leading zeros included.
+pub const MOST_DIGITS: usize = 20;
 
 /// The value of a decimal; leading zeros are allowed.
 pub fn decimal(bytes: &[u8]) -> Option<u64>
-    ensures { MatchOption result ((value : ℕ) → IsDecimal bytes.now value → ⊥) (IsDecimal bytes.now) }
+    ensures { MatchOption result ((value : ℕ) → ¬ IsDecimal bytes.now value) (IsDecimal bytes.now) }
 {
     if bytes.is_empty() {
         return None;
     }
-    if bytes.len() > 20 {
+    if bytes.len() > MOST_DIGITS {
         return None;
     }
     value_of(bytes)
 }
 
 fn value_of(digits: &[u8]) -> Option<u64>
-    ensures { MatchOption result (AllDigits 10 digits.now → 2 ^ 64 ≤ digits_value 10 digits.now) (λ value. AllDigits 10 digits.now × (digits_value 10 digits.now ≡ value)) }
+    ensures { MatchOption result (AllDigits 10 digits.now → 2 ^ 64 ≤ digits_value 10 digits.now) (HasValue digits.now) }
 {
     let mut value = 0;
     for byte in digits {

@@ -1,329 +1,158 @@
 -- For files that can be compared `check` answers what is so, and nothing else but for failures.
-use Rattle.std.proofs.Common.{◌≡◌, ◌∙◌, ℕ, ◌<◌, ◌≤◌, true, List, [], ◌∷◌, length, Option, Err, All, inl, inr, refl, sym, ap, subst, arith, ◌⊎◌}
-use Rattle.std.proofs.lemmas.List.Elements.{All-contains}
-use Rattle.std.specs.Option.{IfSome}
+use Rattle.std.proofs.Common.{◌≡◌, ◌∙◌, ℕ, List, [], ◌∷◌, Option, inl, inr, sym, ap, subst, arith}
+use Rattle.edge_io.specs.Outside.{ToldFiles, ToldSink, AppendsTo}
 use Rattle.lts_base.specs.declared.item.Item.{Item}
-use Rattle.lts_base.specs.declared.item.Item.TheVariants.{Input, Output, Delta}
-use Rattle.lts_base.specs.declared.action.Act.TheVariants.{Label}
-use Rattle.lts_base.specs.declared.sorting.Rule.{Rule}
-use Rattle.lts_base.specs.declared.sorting.Rule.TheVariants.{Listed}
-use Rattle.lts_base.specs.System.{System, IsSystem, IsMoveOf, label_count}
-use Rattle.lts_base.specs.After.{ShowsAfter}
+use Rattle.lts_base.specs.System.{System, IsSystem, label_count}
 use Rattle.lts_base.specs.Alphabet.{Alphabet}
-use Rattle.lts_base.specs.Raw.{RawSystem}
-use Rattle.lts_base.specs.Shape.{IsConvergent}
-use Rattle.lts_base.specs.Sorting.{IsAlphabetOf}
-use Rattle.lts_base.specs.Order.{place, IsAtMost, IsFirstViolation}
+use Rattle.lts_base.specs.Order.{IsFirstViolation}
 use Rattle.lts_base.specs.Reached.{Row, IsWithin}
-use Rattle.lts_base.proofs.OrderLaws.{IsBefore-trans, IsBefore-irreflexive}
-use Rattle.lts_shape.specs.Inputs.{IsFirstMissing}
-use Rattle.lts_shape.proofs.CycleLaws.{IsTauCycle-diverges}
-use Rattle.text_scan.specs.Listing.{IsListing}
-use Rattle.text_scan.proofs.ListingOnce.{listing_only}
-use Rattle.aut_text.proofs.OnceLaws.{aut_once, aut_excludes}
+use Rattle.lts_base.specs.Related.{rows_of, row_of}
+use Rattle.std.proofs.lemmas.List.{length-map}
 use Rattle.conf_decide.specs.declared.answer.Answer.{Answer}
 use Rattle.conf_decide.specs.declared.answer.Answer.TheVariants.{Conforms as Related, Violates as Broken, Undecided as Cut}
 use Rattle.conf_decide.specs.declared.answer.What.{What}
 use Rattle.conf_decide.specs.declared.answer.What.TheVariants.{Pairs, ImpMembers, SpecMembers}
 use Rattle.conf_decide.specs.Decided.{IsDecided, IsPast}
-use Rattle.torx_words.specs.Asked.{AskedSorting, by_prefix, by_suffix, by_list, AskedCheck, AskToCheck}
-use Rattle.torx_tool.specs.declared.status.FileError.{FileError}
-use Rattle.torx_tool.specs.declared.status.FileError.TheVariants.{Aut, Lines, UnknownLabel}
+use Rattle.conf_decide.proofs.OnceLaws.{first_once}
+use Rattle.tool_base.specs.declared.report.Report.{Report}
+use Rattle.tool_base.specs.Contents.{Contents}
+use Rattle.tool_base.proofs.InputOnce.{systems_once, sources_apart}
+use Rattle.cmd_check.specs.declared.outcome.CheckOutcome.{CheckOutcome}
+use Rattle.cmd_check.specs.declared.outcome.CheckOutcome.TheVariants.{Conforms, Violates, Undecided, NotEnabled}
+use Rattle.cmd_check.specs.Asked.{AskedCheck, check_sources, limits_asked}
+use Rattle.cmd_check.specs.Check.{outcome_of, check_text, check_page, check_command, IsVerdict, AnswersCheck}
+use Rattle.cmd_check.proofs.OnceLaws.{lacking_unable, sound_pair}
+use Rattle.torx_tool.specs.declared.name.Name.{Name}
 use Rattle.torx_tool.specs.declared.status.Status.{Status}
-use Rattle.torx_tool.specs.declared.status.Status.TheVariants.{Violates, Usage, TooLong, BadFile, BadLabels, Divergent, NotEnabled, FileFault}
-use Rattle.torx_tool.specs.Causes.{World, Told, Holds, RefusesFile, IsReadAs, IsFaultySystem, IsFaultyList, RefusesSystems, IsRule, RefusesRule, RefusesLabels, IsCycleOf, IsDiverging, IsRefused, IsInput, IsSplit, RefusesInput, reported, limits_of, IsNotEnabled, IsEnabledFor, IsComparison, IsCheckedFor, IsUsage, IsAnswer}
-use Rattle.torx_tool.specs.Headline.{IsFailure, Tells, TellsRule, AreLoaded, IsComparable, HasRoom, HasRoomUpTo, IsSettled}
-use Rattle.torx_tool.proofs.WordsOnce.{asked_once, no_outs, no_angelic, asked_stands}
+use Rattle.torx_tool.specs.Status.{check_status, IsFailure}
+use Rattle.torx_tool.specs.Run.{ReportsBy, IsReportOn, IsWritten}
+use Rattle.torx_tool.specs.Headline.{AskForCheck, IsComparable, HasRoom, HasRoomUpTo, IsCutBy, IsRight, Prints, IsSettled}
+use Rattle.torx_tool.proofs.ExactLaws.{IsByReport, by_page}
 use Rattle.torx_tool.proofs.RoomLaws.{cut_up_to}
-use Rattle.torx_tool.proofs.ReadOnce.{memory_alone, ArePairs, pairs_alphabet, pairs_split}
-
--- what holds of a content, where it is told
-pub told_is : (content : Told) (name : List ℕ) (is P : List ℕ → Type 0) → (told : Tells content name is) → Holds content name P → P told.c
-told_is content name is P told holds = (subst (λ (o : Option (List ℕ)). IfSome o (λ c. (length c ≤ 67108864) × P c)) told.told holds).1
-
--- a file that is told, and that has no fault, is refused for a failure alone
-pub file_stands : (w : World) (faulty : List ℕ → FileError → Type 0) (is : List ℕ → Type 0) (name : List ℕ) (status : Status) → (told : Tells w.content name is) → ((e : FileError) → faulty told.c e → ⊥) → RefusesFile w faulty name status → IsFailure status
-file_stands w faulty is name (FileFault named) told fine h = tt
-file_stands w faulty is name (TooLong named) told fine h =
-    let long : 67108864 < length told.c = subst (λ (o : Option (List ℕ)). IfSome o (λ c. 67108864 < length c)) told.told h.1 in
-    absurd (omega (arith, long, told.short))
-file_stands w faulty is name (BadFile named error) told fine h = absurd (fine error (told_is w.content name is (λ c. faulty c error) told h.1))
-file_stands w faulty is name other told fine h = absurd h
-
--- a file of a system has no fault
-pub aut_fine : (c : List ℕ) (raw : RawSystem) → IsReadAs c raw → (e : FileError) → IsFaultySystem c e → ⊥
-aut_fine c raw is (Aut error) h = h.1 (aut_excludes c raw error is.aut h.0)
-aut_fine c raw is (Lines error) h = h
-aut_fine c raw is (UnknownLabel n) h = h
-
--- a list of labels has no fault
-pub list_fine : (c : List ℕ) (inputs : List (List ℕ)) → IsListing c inputs → (e : FileError) → IsFaultyList c e → ⊥
-list_fine c inputs is (Aut error) h = h
-list_fine c inputs is (Lines error) h = h.1 (listing_only c inputs (Err error) h.0 is)
-list_fine c inputs is (UnknownLabel n) h = h
-
--- the two files of systems are refused for a failure alone
-systems_stand : (w : World) (asked : AskedCheck) (s i : System) (status : Status) → AreLoaded w.content asked s i → RefusesSystems w (asked.spec ∷ asked.imp ∷ []) status → IsFailure status
-systems_stand w asked s i status files (inl h) = file_stands w IsFaultySystem (λ c. IsReadAs c files.spec) asked.spec status files.spec_read (aut_fine files.spec_read.c files.spec files.spec_read.is_so) h
-systems_stand w asked s i status files (inr (read, inl h)) = file_stands w IsFaultySystem (λ c. IsReadAs c files.imp) asked.imp status files.imp_read (aut_fine files.imp_read.c files.imp files.imp_read.is_so) h
-systems_stand w asked s i status files (inr (read, inr h)) = absurd h.1
-
--- the list of inputs is refused for a failure alone
-pub rule_stands : (w : World) (sorting : AskedSorting) (rule : Rule) (status : Status) → TellsRule w.content sorting rule → RefusesRule w sorting status → IsFailure status
-rule_stands w by_prefix rule status told h = absurd h
-rule_stands w by_suffix rule status told h = absurd h
-rule_stands w (by_list name) rule status (inputs, listed, is) h = file_stands w IsFaultyList (λ c. IsListing c inputs) name status listed (list_fine listed.c inputs listed.is_so) h
-
--- there is one rule
-pub rule_once : (content : Told) (sorting : AskedSorting) (rule other : Rule) → TellsRule content sorting rule → IsRule content sorting other → other ≡ rule
-rule_once content by_prefix rule other told is = is ∙ sym told
-rule_once content by_suffix rule other told is = is ∙ sym told
-rule_once content (by_list name) rule other (inputs, listed, told) (more, read, is) =
-    let listing : IsListing listed.c more = told_is content name (λ c. IsListing c inputs) (λ c. IsListing c more) listed read in
-    is ∙ ap Listed (listing.texts ∙ sym (listed.is_so.texts)) ∙ sym told
-
--- labels that have an alphabet can be sorted
-pub labels_stand : (rule : Rule) (raws : List RawSystem) (a : Alphabet) (status : Status) → IsAlphabetOf rule raws a → RefusesLabels rule raws status → ⊥
-labels_stand rule raws a (BadLabels error) is h = h.1 (memory_alone rule raws a is error h.0)
-labels_stand rule raws a other is h = h
-
--- what is read of the two files is what is told of them, but for the numbers of labels
-pairs_of : (content : Told) (asked : AskedCheck) (s i : System) (one two : RawSystem) → (files : AreLoaded content asked s i) → Holds content asked.spec (λ c. IsReadAs c one) → Holds content asked.imp (λ c. IsReadAs c two) →
-    ArePairs files.spec files.imp one two
-pairs_of content asked s i one two files first second =
-    let spec : IsReadAs files.spec_read.c one = told_is content asked.spec (λ c. IsReadAs c files.spec) (λ c. IsReadAs c one) files.spec_read first in
-    let imp : IsReadAs files.imp_read.c two = told_is content asked.imp (λ c. IsReadAs c files.imp) (λ c. IsReadAs c two) files.imp_read second in
-    record {
-      r1_raw = files.spec_read.is_so.sound;
-      r2_raw = files.imp_read.is_so.sound;
-      q1_raw = spec.sound;
-      q2_raw = imp.sound;
-      first = aut_once files.spec_read.c files.spec one files.spec_read.is_so.aut spec.aut;
-      second = aut_once files.imp_read.c files.imp two files.imp_read.is_so.aut imp.aut;
-    }
-
--- the labels of what is read of the two files can be sorted
-input_sorted : (content : Told) (asked : AskedCheck) (s i : System) (raws : List RawSystem) (rule : Rule) (status : Status) → AreLoaded content asked s i → IsInput content (asked.spec ∷ asked.imp ∷ []) asked.sorting raws rule → RefusesLabels rule raws status → ⊥
-input_sorted content asked s i [] rule status files input h = absurd input.read
-input_sorted content asked s i (one ∷ []) rule status files input h = absurd input.read.1
-input_sorted content asked s i (one ∷ two ∷ x ∷ more) rule status files input h = absurd input.read.1.1
-input_sorted content asked s i (one ∷ two ∷ []) rule status files input h =
-    let pairs : ArePairs files.spec files.imp one two = pairs_of content asked s i one two files input.read.0 input.read.1.0 in
-    let same : rule ≡ files.rule = rule_once content asked.sorting files.rule rule files.ruled input.ruled in
-    labels_stand files.rule (one ∷ two ∷ []) files.alphabet status (pairs_alphabet files.rule files.spec files.imp one two files.alphabet pairs files.split.alphabet)
-    (subst (λ (r : Rule). RefusesLabels r (one ∷ two ∷ []) status) same h)
-
--- files that are loaded are refused for a failure alone
-input_stands : (w : World) (asked : AskedCheck) (s i : System) (status : Status) → AreLoaded w.content asked s i → RefusesInput w (asked.spec ∷ asked.imp ∷ []) asked.sorting status → IsFailure status
-input_stands w asked s i status files (inl h) = systems_stand w asked s i status files h
-input_stands w asked s i status files (inr (inl (raws, read, h))) = rule_stands w asked.sorting files.rule status files.ruled h
-input_stands w asked s i status files (inr (inr (raws, rule, input, h))) = absurd (input_sorted w.content asked s i raws rule status files input h)
-
--- the systems that are compared are these two
-systems_once : (content : Told) (asked : AskedCheck) (s i : System) (raws : List RawSystem) (rule : Rule) (a : Alphabet) (systems : List System) → AreLoaded content asked s i → IsInput content (asked.spec ∷ asked.imp ∷ []) asked.sorting raws rule →
-    IsSplit rule raws a systems → systems ≡ s ∷ i ∷ []
-systems_once content asked s i [] rule a systems files input split = absurd input.read
-systems_once content asked s i (one ∷ []) rule a systems files input split = absurd input.read.1
-systems_once content asked s i (one ∷ two ∷ x ∷ more) rule a systems files input split = absurd input.read.1.1
-systems_once content asked s i (one ∷ two ∷ []) rule a systems files input split =
-    let pairs : ArePairs files.spec files.imp one two = pairs_of content asked s i one two files input.read.0 input.read.1.0 in
-    let same : rule ≡ files.rule = rule_once content asked.sorting files.rule rule files.ruled input.ruled in
-    pairs_split files.rule files.spec files.imp one two files.alphabet a s i systems pairs files.split (subst (λ (r : Rule). IsSplit r (one ∷ two ∷ []) a systems) same split)
-
--- a convergent system has no cycle of Tau moves
-pub no_cycle : (name : List ℕ) (s : System) (status : Status) → IsConvergent s → IsCycleOf name s status → ⊥
-no_cycle name s (Divergent named cycle) convergent h = IsTauCycle-diverges s cycle h.1 convergent
-no_cycle name s other convergent h = h
-
--- an implementation that is input-enabled, if it has to be, lacks no input
-not_lacking : (asked : AskedCheck) (i : System) (status : Status) → IsEnabledFor asked i → IsNotEnabled asked i status → ⊥
-not_lacking asked i (NotEnabled name state input) enabled (asks, named, missing) = let (σ, ends) = missing.ends in missing.lacks (enabled asks σ state ends input missing.input)
-not_lacking asked i other enabled h = h
-
--- the right answer, and what it is called
-abbrev IsRight : AskedCheck → System → System → Status → Type 0
-IsRight asked s i status = (answer : Answer) × IsDecided asked.mode (limits_of asked) i s answer × (status ≡ reported answer)
-
--- the implementation isn't input-enabled, though it has to be; or else this is the right answer
-abbrev IsOutcome : AskedCheck → System → System → Status → Type 0
-IsOutcome asked s i status = IsNotEnabled asked i status ⊎ (IsEnabledFor asked i × IsRight asked s i status)
-
--- two convergent systems are compared
-compared : (asked : AskedCheck) (a : Alphabet) (s i : System) (status : Status) (text : List ℕ) → IsConvergent s → IsConvergent i →
-    IsRefused (IsDiverging (asked.spec ∷ asked.imp ∷ []) (s ∷ i ∷ [])) status text ⊎ (All IsConvergent (s ∷ i ∷ []) × IsComparison asked a (s ∷ i ∷ []) status text) → IsOutcome asked s i status
-compared asked a s i status text first second (inl (inl cycle, says)) = absurd (no_cycle asked.spec s status first cycle)
-compared asked a s i status text first second (inl (inr (convergent, inl cycle), says)) = absurd (no_cycle asked.imp i status second cycle)
-compared asked a s i status text first second (inl (inr (convergent, inr none), says)) = absurd none.1
-compared asked a s i status text first second (inr (convergent, inl (lacks, says))) = inl lacks
-compared asked a s i status text first second (inr (convergent, inr (able, (answer, decided, is, says)))) = inr (able, (answer, decided, is))
-
--- what is answered for files that are loaded
-checked : (w : World) (asked : AskedCheck) (s i : System) (status : Status) (text : List ℕ) → AreLoaded w.content asked s i → IsCheckedFor w asked status text → IsFailure status ⊎ IsOutcome asked s i status
-checked w asked s i status text files (inl (refused, says)) = inl (input_stands w asked s i status files refused)
-checked w asked s i status text files (inr (raws, rule, a, systems, input, split, h)) =
-    let same : systems ≡ s ∷ i ∷ [] = systems_once w.content asked s i raws rule a systems files input split in
-    inr (compared asked a s i status text files.spec_convergent files.imp_convergent
-    (subst (λ (ss : List System). IsRefused (IsDiverging (asked.spec ∷ asked.imp ∷ []) ss) status text ⊎ (All IsConvergent ss × IsComparison asked a ss status text)) same h))
-
--- a system lacks one first input
-missing_once : (asked : AskedCheck) (i : System) (state input : ℕ) (status : Status) → IsFirstMissing i i.inputs state input → IsNotEnabled asked i status → status ≡ NotEnabled asked.imp state input
-missing_once asked i state input (NotEnabled name q a) first (asks, named, missing) =
-    let down = first.state q a missing.ends missing.input missing.lacks in
-    let up = missing.state state input first.ends first.input first.lacks in
-    let same : q ≡ state = omega (arith, down, up) in
-    let here : IsFirstMissing i i.inputs state a = subst (λ (p : ℕ). IsFirstMissing i i.inputs p a) same missing in
-    let below = first.least a here.input here.lacks in
-    let above = here.least input first.input first.lacks in
-    let meets : a ≡ input = omega (arith, below, above) in
-    ap (λ (n : List ℕ). NotEnabled n q a) named ∙ ap (λ (p : ℕ). NotEnabled asked.imp p a) same ∙ ap (λ (b : ℕ). NotEnabled asked.imp state b) meets
-missing_once asked i state input other first h = absurd h
-
--- an implementation that lacks an input isn't input-enabled
-not_enabled : (asked : AskedCheck) (i : System) (state input : ℕ) → IsFirstMissing i i.inputs state input → asked.enabled ≡ true → IsEnabledFor asked i → ⊥
-not_enabled asked i state input missing asks enabled = let (σ, ends) = missing.ends in missing.lacks (enabled asks σ state ends input missing.input)
-
--- an implementation that has to be input-enabled, and lacks an input, is answered so
-lacking : (asked : AskedCheck) (s i : System) (state input : ℕ) (status : Status) → IsFirstMissing i i.inputs state input → asked.enabled ≡ true → IsFailure status ⊎ IsOutcome asked s i status → (status ≡ NotEnabled asked.imp state input) ⊎ IsFailure status
-lacking asked s i state input status missing asks (inl failure) = inr failure
-lacking asked s i state input status missing asks (inr (inl lacks)) = inl (missing_once asked i state input status missing lacks)
-lacking asked s i state input status missing asks (inr (inr (able, right))) = absurd (not_enabled asked i state input missing asks able)
-
--- traces that come before each other, or are the same, are the same
-trace_once : (n : ℕ) (σ τ : List Item) → IsAtMost n σ τ → IsAtMost n τ σ → σ ≡ τ
-trace_once n σ τ (inl same) other = same
-trace_once n σ τ (inr before) (inl same) = sym same
-trace_once n σ τ (inr before) (inr after) = absurd (IsBefore-irreflexive n σ (IsBefore-trans n σ τ σ before after))
-
--- the number of an output that is shown is below the number of labels
-shown_low : (i : System) (σ : List Item) (a : ℕ) → IsSystem i → ShowsAfter i σ (Output a) → a < label_count i
-shown_low i σ a sound (q, ends, (high, (r, has))) =
-    let move = All-contains (IsMoveOf i.states (label_count i)) i.moves (record { from = q; act = Label a; to = r }) sound.moves has in
-    move.act
-
--- items that are shown, and have one place, are the same
-item_once : (i : System) (n : ℕ) (σ : List Item) (x y : Item) → IsSystem i → label_count i ≡ n → ShowsAfter i σ x → ShowsAfter i σ y → place n x ≡ place n y → x ≡ y
-item_once i n σ (Input a) y sound e one other same = absurd one.2
-item_once i n σ (Output a) (Input b) sound e one other same = absurd other.2
-item_once i n σ (Output a) (Output b) sound e one other same = ap Output same
-item_once i n σ (Output a) Delta sound e one other same = let low = shown_low i σ a sound one in absurd (omega (arith, low, e, same))
-item_once i n σ Delta (Input b) sound e one other same = absurd other.2
-item_once i n σ Delta (Output b) sound e one other same = let low = shown_low i σ b sound other in absurd (omega (arith, low, e, same))
-item_once i n σ Delta Delta sound e one other same = refl
-
--- there is one first violation
-first_once : (asked : AskedCheck) (s i : System) (σ τ : List Item) (x y : Item) → IsSystem i → label_count i ≡ label_count s → IsFirstViolation asked.mode i s σ x → IsFirstViolation asked.mode i s τ y → (σ ≡ τ) × (x ≡ y)
-first_once asked s i σ τ x y sound same one other =
-    let trace : σ ≡ τ = trace_once (label_count s) σ τ (one.trace τ y other.violation) (other.trace σ x one.violation) in
-    let here : IsFirstViolation asked.mode i s τ x = subst (λ (ρ : List Item). IsFirstViolation asked.mode i s ρ x) trace one in
-    let up = here.item y other.violation in
-    let down = other.item x here.violation in
-    (trace, item_once i (label_count s) τ x y sound same here.violation.shown other.violation.shown (omega (arith, up, down)))
 
 -- pairs that are within the limits pass none
-none_past : (asked : AskedCheck) (rows : List Row) (what : What) (reached : ℕ) → IsWithin (limits_of asked) rows → IsPast (limits_of asked) rows what reached → ⊥
-none_past asked rows ImpMembers reached within (is, over) = omega (arith, is, over, within.imp)
-none_past asked rows SpecMembers reached within (low, is, over) = omega (arith, is, over, within.spec)
-none_past asked rows Pairs reached within (low, fair, over, is) = omega (arith, over, within.pairs)
+none_past : (q : AskedCheck) (rows : List Row) (what : What) (reached : ℕ) → IsWithin (limits_asked q) rows → ¬ IsPast (limits_asked q) rows what reached
+none_past q rows ImpMembers reached within (is, over) = omega (arith, is, over, within.imp)
+none_past q rows SpecMembers reached within (low, is, over) = omega (arith, is, over, within.spec)
+none_past q rows Pairs reached within (low, fair, over, is) = omega (arith, over, within.pairs)
 
--- an answer that isn't known passes a limit
-no_room : (asked : AskedCheck) (s i : System) (what : What) (reached depth : ℕ) → IsDecided asked.mode (limits_of asked) i s (Cut what reached depth) → HasRoom asked s i → ⊥
-no_room asked s i what reached depth (rows, traces, cut) room = none_past asked rows what reached (room rows traces cut.first) cut.past
+-- a decision that is cut passes a limit
+no_room : (q : AskedCheck) (s i : System) (what : What) (reached depth : ℕ) → IsCutBy q s i what reached depth → ¬ HasRoom q s i
+no_room q s i what reached depth (rows, traces, cut) room = none_past q rows what reached (room rows traces cut.first) cut.past
 
 -- and it passes it before a violation is met
-no_room_up_to : (asked : AskedCheck) (s i : System) (what : What) (reached depth : ℕ) (σ : List Item) (x : Item) → IsSystem s → IsSystem i → IsDecided asked.mode (limits_of asked) i s (Cut what reached depth) → IsFirstViolation asked.mode i s σ x →
-    HasRoomUpTo asked s i σ → ⊥
-no_room_up_to asked s i what reached depth σ x spec imp (rows, traces, cut) first room =
-    none_past asked rows what reached (room rows traces cut.first (cut_up_to asked.mode (limits_of asked) i s what reached depth rows traces σ x imp spec cut first.violation)) cut.past
+no_room_up_to : (q : AskedCheck) (s i : System) (what : What) (reached depth : ℕ) (σ : List Item) (x : Item) → IsSystem s → IsSystem i → IsCutBy q s i what reached depth → IsFirstViolation q.mode i s σ x → ¬ HasRoomUpTo q s i σ
+no_room_up_to q s i what reached depth σ x spec imp (rows, traces, cut) first room =
+    none_past q rows what reached (room rows traces cut.first (cut_up_to q.mode (limits_asked q) i s what reached depth rows traces σ x imp spec cut first.violation)) cut.past
 
 -- a failure says nothing
-pub failed : (asked : AskedCheck) (s i : System) (status : Status) → IsFailure status → IsSettled asked s i status
-failed asked s i status failure = record {
-  answered = inr failure;
+no_cut_fails : (what : What) (reached depth : ℕ) (status : Status) → IsFailure status → ¬ (status ≡ check_status (Undecided what reached depth))
+no_cut_fails what reached depth status failure is = subst IsFailure is failure
+
+pub failed : (q : AskedCheck) (a : Alphabet) (s i : System) (old new : ToldSink) (status : Status) → IsFailure status → IsSettled q a s i old new status
+failed q a s i old new status failure = record {
+  right = inr failure;
   conforms = λ conforming room. inr failure;
   violates = λ σ x first room. inr failure;
-  is_conforming = λ n e. absurd (subst IsFailure e failure);
-  is_first = λ σ x e. absurd (subst IsFailure e failure);
-  is_cut = λ what reached depth e room. subst IsFailure e failure;
+  cut = λ what reached depth is. absurd (no_cut_fails what reached depth status failure is);
 }
 
--- the right answer settles the matter
-right : (asked : AskedCheck) (s i : System) (answer : Answer) → IsSystem s → IsSystem i → label_count i ≡ label_count s → IsDecided asked.mode (limits_of asked) i s answer → IsSettled asked s i (reported answer)
-right asked s i (Related relation) spec sound same h = record {
-  answered = inl tt;
-  conforms = λ conforming room. inl (length relation.pairs, refl);
-  violates = λ σ x first room. absurd (h.conforming σ x first.violation);
-  is_conforming = λ n e. h.conforming;
-  is_first = λ σ x e. absurd (cc e);
-  is_cut = λ what reached depth e room. cc e;
+-- the right outcome of a decision
+right_of : (q : AskedCheck) (s i : System) (answer : Answer) → IsDecided q.mode (limits_asked q) i s answer → IsRight q s i (outcome_of answer)
+right_of q s i (Related relation) h = record { conforming = h.conforming; rows = rows_of relation; traces = h.reached.0; reached = h.reached.1; number = sym (length-map relation.pairs (row_of relation.left relation.right)) }
+right_of q s i (Broken trace shown) h = h.0
+right_of q s i (Cut what reached depth) h = h
+
+cut_is : (n m : ℕ) (what other : What) (d e : ℕ) → check_status (Undecided what n d) ≡ check_status (Undecided other m e) → (what ≡ other) × (n ≡ m) × (d ≡ e)
+cut_is n m what other d e is = (cc is, cc is, cc is)
+
+-- the right outcome, where it is answered and printed, settles the matter
+settled : (q : AskedCheck) (a : Alphabet) (s i : System) (outcome : CheckOutcome) (old new : ToldSink) (status : Status) → IsSystem s → IsSystem i → label_count i ≡ label_count s → IsRight q s i outcome → Prints a outcome old new status →
+    IsSettled q a s i old new status
+settled q a s i (Conforms n) old new status spec imp same right prints = record {
+  right = inl (Conforms n, right, prints);
+  conforms = λ conforming room. inl (n, right, prints);
+  violates = λ σ x first room. absurd (right.conforming σ x first.violation);
+  cut = λ what reached depth is. absurd (no_number n what reached depth (sym prints.answer ∙ is));
 }
-right asked s i (Broken trace shown) spec sound same h = record {
-  answered = inl tt;
-  conforms = λ conforming room. absurd (conforming trace shown h.0.violation);
+  where
+    no_number : (m : ℕ) (what : What) (reached depth : ℕ) → ¬ (check_status (Conforms m) ≡ check_status (Undecided what reached depth))
+    no_number m what reached depth e = cc e
+settled q a s i (Violates trace shown) old new status spec imp same right prints = record {
+  right = inl (Violates trace shown, right, prints);
+  conforms = λ conforming room. absurd (conforming trace shown right.violation);
   violates = λ σ x first room.
-      let once = first_once asked s i trace σ shown x sound same h.0 first in
-      inl (ap (λ τ. Violates τ shown) once.0 ∙ ap (Violates σ) once.1);
-  is_conforming = λ n e. absurd (cc e);
-  is_first = λ σ x e.
-      let trace_is : trace ≡ σ = cc e in
-      let shown_is : shown ≡ x = cc e in
-      subst (λ (y : Item). IsFirstViolation asked.mode i s σ y) shown_is (subst (λ (τ : List Item). IsFirstViolation asked.mode i s τ shown) trace_is h.0);
-  is_cut = λ what reached depth e room. cc e;
+      let once = first_once q.mode i s trace σ shown x imp same right first in
+      let is : Violates trace shown ≡ Violates σ x = ap (λ τ. Violates τ shown) once.0 ∙ ap (Violates σ) once.1 in
+      inl (subst (λ (o : CheckOutcome). Prints a o old new status) is prints);
+  cut = λ what reached depth is. absurd (no_trace what reached depth (sym prints.answer ∙ is));
 }
-right asked s i (Cut what reached depth) spec sound same h = record {
-  answered = inl tt;
-  conforms = λ conforming room. absurd (no_room asked s i what reached depth h room);
-  violates = λ σ x first room. absurd (no_room_up_to asked s i what reached depth σ x spec sound h first room);
-  is_conforming = λ n e. absurd (cc e);
-  is_first = λ σ x e. absurd (cc e);
-  is_cut = λ limit count long e room. no_room asked s i what reached depth h room;
+  where
+    no_trace : (what : What) (reached depth : ℕ) → ¬ (check_status (Violates trace shown) ≡ check_status (Undecided what reached depth))
+    no_trace what reached depth e = cc e
+settled q a s i (Undecided what reached depth) old new status spec imp same right prints = record {
+  right = inl (Undecided what reached depth, right, prints);
+  conforms = λ conforming room. absurd (no_room q s i what reached depth right room);
+  violates = λ σ x first room. absurd (no_room_up_to q s i what reached depth σ x spec imp right first room);
+  cut = λ other n d is. no_room q s i what reached depth right;
 }
+settled q a s i (NotEnabled name state input) old new status spec imp same right prints = absurd right
 
--- the two systems have as many labels
-same_labels : (rule : Rule) (raws : List RawSystem) (a : Alphabet) (s i : System) → IsSplit rule raws a (s ∷ i ∷ []) → label_count i ≡ label_count s
-same_labels rule raws a s i split =
-    let long = split.over.long in
-    let first = split.over.each 0 (omega (arith, long)) in
-    let second = split.over.each 1 (omega (arith, long)) in
-    omega (arith, first.inputs, first.outputs, second.inputs, second.outputs)
+-- what is written of a report on the right outcome
+printed : (q : AskedCheck) (a : Alphabet) (s i : System) (outcome : CheckOutcome) (report : Report Status) (old new : ToldSink) (status : Status) → IsSystem s → IsSystem i → label_count i ≡ label_count s → IsRight q s i outcome →
+    report ≡ record { outcome = check_status outcome; text = check_text a.texts outcome } → IsWritten report old new status → IsSettled q a s i old new status
+printed q a s i outcome report old new status spec imp same right is (inl (out, memory, none)) = failed q a s i old new status (subst IsFailure (sym memory) tt)
+printed q a s i outcome report old new status spec imp same right is (inr (some, inr (fault, fails, front))) = failed q a s i old new status (subst IsFailure (sym fault) tt)
+printed q a s i outcome report old new status spec imp same right is (inr (some, inl (due, appended))) =
+    settled q a s i outcome old new status spec imp same right (record {
+      answer = due ∙ ap (λ (r : Report Status). r.outcome) is;
+      text = subst (λ (r : Report Status). AppendsTo old new r.text) is appended;
+    })
 
--- what is answered for files that can be compared settles the matter
-settled : (w : World) (asked : AskedCheck) (s i : System) (status : Status) (text : List ℕ) → IsComparable w.content asked s i → IsCheckedFor w asked status text → IsSettled asked s i status
-settled w asked s i status text files h = elim (checked w asked s i status text files.loaded h) [
-  | inl failure ↦ failed asked s i status failure
-  | inr (inl lacks) ↦ absurd (not_lacking asked i status files.enabled lacks)
-  | inr (inr (able, (answer, decided, is))) ↦
-      let split = files.loaded.split in
-      let spec : IsSystem s = split.sound 0 s (omega arith) in
-      let sound : IsSystem i = split.sound 1 s (omega arith) in
-      subst (λ (st : Status). IsSettled asked s i st) (sym is) (right asked s i answer spec sound (same_labels files.loaded.rule (files.loaded.spec ∷ files.loaded.imp ∷ []) files.loaded.alphabet s i split) decided)
-]
+-- what is written of a failure is one
+written_failure : (report : Report Status) (old new : ToldSink) (status : Status) → IsFailure report.outcome → IsWritten report old new status → IsFailure status
+written_failure report old new status failure (inl (out, memory, none)) = subst IsFailure (sym memory) tt
+written_failure report old new status failure (inr (some, inl (due, appended))) = subst IsFailure (sym due) failure
+written_failure report old new status failure (inr (some, inr (fault, fails, front))) = subst IsFailure (sym fault) tt
 
--- words that ask for `check` aren't refused
-pub no_usage : (words : List (List ℕ)) (asked : AskedCheck) (status : Status) → AskToCheck words asked → IsUsage words status → ⊥
-no_usage words asked (Usage kind) ask h = asked_stands words kind asked ask h
-no_usage words asked other ask h = h
+first_is : (s i t j : System) → s ∷ i ∷ [] ≡ t ∷ j ∷ [] → s ≡ t
+first_is s i t j e = cc
 
--- what is answered to words that ask for `check`
-pub check_answer : (w : World) (words : List (List ℕ)) (status : Status) (text : List ℕ) → IsAnswer w words status text → (asked : AskedCheck) → AskToCheck words asked → IsFailure status ⊎ IsCheckedFor w asked status text
-check_answer w words status text (inl memory) asked ask = inl (subst IsFailure (sym memory) tt)
-check_answer w words status text (inr (inl (usage, says))) asked ask = absurd (no_usage words asked status ask usage)
-check_answer w words status text (inr (inr (inl (other, ask_other, h)))) asked ask =
-    let same : other ≡ asked = asked_once words other asked ask_other ask in
-    inr (subst (λ (c : AskedCheck). IsCheckedFor w c status text) same h)
-check_answer w words status text (inr (inr (inr (inl (other, ask_other, h))))) asked ask = absurd (no_outs words asked other ask ask_other)
-check_answer w words status text (inr (inr (inr (inr (other, ask_other, h))))) asked ask = absurd (no_angelic words asked other ask ask_other)
+second_is : (s i t j : System) → s ∷ i ∷ [] ≡ t ∷ j ∷ [] → i ≡ j
+second_is s i t j e = cc
+
+-- what a report by the page of the two files settles
+by_report : (contents : Contents) (words : List (List ℕ)) (q : AskedCheck) (a : Alphabet) (s i : System) (report : Report Status) (old new : ToldSink) (status : Status) → IsComparable contents words q a s i → IsByReport (check_page contents q) check_status report →
+    IsWritten report old new status → IsSettled q a s i old new status
+by_report contents words q a s i report old new status files (inl failure) written = failed q a s i old new status (written_failure report old new status failure written)
+by_report contents words q a s i report old new status files (inr (inl refusal)) written =
+    absurd (sources_apart contents (check_sources q) refusal.refusal a (s ∷ i ∷ []) files.told refusal.refuses files.systems)
+by_report contents words q a s i report old new status files (inr (inr answer)) written = go answer.outcome answer.answers answer.is
+  where
+    sound : IsSystem s × IsSystem i × (label_count i ≡ label_count s)
+    sound = sound_pair contents q a s i files.systems
+
+    decided : (o : CheckOutcome) → IsVerdict q s i o → report ≡ record { outcome = check_status o; text = check_text a.texts o } → IsSettled q a s i old new status
+    decided o (inl lacks) is = absurd (lacking_unable q i o lacks files.able)
+    decided o (inr (able, (found, right, told))) is =
+        printed q a s i o report old new status sound.0 sound.1 sound.2 (subst (IsRight q s i) (sym told) (right_of q s i found right)) is written
+
+    go : (o : CheckOutcome) → AnswersCheck contents q o answer.text → report ≡ record { outcome = check_status o; text = answer.text } → IsSettled q a s i old new status
+    go o one is =
+        let same = systems_once contents (check_sources q) a one.a (s ∷ i ∷ []) (one.s ∷ one.i ∷ []) files.told files.systems one.systems in
+        let first : IsVerdict q s one.i o = subst (λ (z : System). IsVerdict q z one.i o) (first_is one.s one.i s i same.1) one.verdict in
+        let second : IsVerdict q s i o = subst (λ (z : System). IsVerdict q s z o) (second_is one.s one.i s i same.1) first in
+        let text : answer.text ≡ check_text a.texts o = one.told ∙ ap (λ (b : Alphabet). check_text b.texts o) same.0 in
+        decided o second (is ∙ ap (λ (t : List ℕ). record { outcome = check_status o; text = t }) text)
+
+-- the report on words that ask for `check`
+check_reported : (words : List (List ℕ)) (q : AskedCheck) (old new : ToldFiles) (report : Report Status) → AskForCheck words q → IsReportOn words old new report → IsByReport (check_page old.content q) check_status report
+check_reported [] q old new report ask h = absurd ask
+check_reported (first ∷ others) q old new report (is, ask) h =
+    by_page check_command check_status others q old new report ask (subst (λ (n : Option Name). ReportsBy n others old new report) is h)
 
 -- what `check` answers for files that can be compared settles the matter
-pub headline : (w : World) (words : List (List ℕ)) (status : Status) (text : List ℕ) → IsAnswer w words status text → (asked : AskedCheck) (s i : System) → AskToCheck words asked → IsComparable w.content asked s i → IsSettled asked s i status
-headline w words status text answer asked s i ask files = elim (check_answer w words status text answer asked ask) [
-  | inl failure ↦ failed asked s i status failure
-  | inr h ↦ settled w asked s i status text files h
-]
-
--- what `check` answers for an implementation that has to be input-enabled, and lacks an input
-pub not_enabled_told : (w : World) (words : List (List ℕ)) (status : Status) (text : List ℕ) → IsAnswer w words status text → (asked : AskedCheck) (s i : System) (state input : ℕ) → AskToCheck words asked → AreLoaded w.content asked s i → asked.enabled ≡ true →
-    IsFirstMissing i i.inputs state input → (status ≡ NotEnabled asked.imp state input) ⊎ IsFailure status
-not_enabled_told w words status text answer asked s i state input ask files asks missing = elim (check_answer w words status text answer asked ask) [
-  | inl failure ↦ inr failure
-  | inr h ↦ lacking asked s i state input status missing asks (checked w asked s i status text files h)
-]
+pub headline : (words : List (List ℕ)) (files later : ToldFiles) (report : Report Status) (old new : ToldSink) (status : Status) → IsReportOn words files later report → IsWritten report old new status →
+    (q : AskedCheck) (a : Alphabet) (s i : System) → IsComparable files.content words q a s i → IsSettled q a s i old new status
+headline words files later report old new status reported written q a s i comparable =
+    by_report files.content words q a s i report old new status comparable (check_reported words q files later report comparable.asks reported) written

@@ -1,15 +1,3 @@
-mod Reports
-mod Openings
-mod TraceLaws
-mod OfferLaws
-mod WorldLaws
-mod RunLaws
-mod WordsOnce
-mod UsageOnce
-mod ReadOnce
-mod LabelsOnce
 mod RoomLaws
+mod ExactLaws
 mod HeadlineLaws
-mod ToldLaws
-mod TraceOnce
-mod LoadedLaws

@@ -1,4 +1,6 @@
-pub mod Printed
-pub mod Offered
-pub mod Causes
+pub mod Commands
+pub mod Status
+pub mod Run
+pub mod Exact
 pub mod Headline
+pub mod Program

@@ -1,24 +1,14 @@
 //! The answers of the program, and their exit statuses.
 ghost use Rattle.std.specs.Prelude.{◌≡◌};
-ghost use Rattle.torx_tool.specs.Printed.{code_of};
+ghost use Rattle.torx_tool.specs.Status.{code_of, check_status as status_of_check, outs_status as status_of_outs, angelic_status as status_of_angelic, refusal_status as status_of_refusal};
 
-use aut_text::AutError;
+use cmd_angelic::AngelicOutcome;
+use cmd_check::CheckOutcome;
+use cmd_outs::OutsOutcome;
 use conf_decide::What;
-use lts_base::{Item, Memory, SplitError, StateList, Text, Trace};
-use std::alloc::{AllocError, AllocFailed};
-use text_scan::LinesError;
+use lts_base::{Item, SplitError, StateList, Text, Trace};
+use tool_base::{FileError, Refusal};
 use torx_words::UsageKind;
-
-/// Why a file isn't in its grammar. Want of memory never stands here.
-#[derive(Drop, Debug)]
-pub enum FileError {
-    /// It is no Aldebaran file.
-    Aut(AutError),
-    /// It lists no labels.
-    Lines(LinesError),
-    /// It is no trace: this line, counted from 1, is no label of the alphabet nor `delta`.
-    UnknownLabel(u32),
-}
 
 /// What there was too much of.
 #[derive(Clone, Copy, PartialEq, Eq, Debug)]
@@ -140,35 +130,60 @@ impl Status {
     }
 }
 
-impl From<AllocError> for Status {
-    ghost use Rattle.std.specs.Prelude.{◌≡◌};
-    ghost use Rattle.torx_tool.specs.declared.status.Status.TheVariants.{Memory as OutOfMemory};
-
-    ghost from_gives = { λ _ e. e ≡ OutOfMemory };
-
-    fn from(_error: AllocError) -> Status {
-        Status::Memory
+/// The answer of `check`.
+pub fn check_status(outcome: CheckOutcome) -> Status
+    ensures { result ≡ status_of_check outcome }
+{
+    match outcome {
+        CheckOutcome::Conforms { pairs } => Status::Conforms { pairs },
+        CheckOutcome::Violates { trace, shown } => Status::Violates { trace, shown },
+        CheckOutcome::Undecided {
+            what,
+            reached,
+            depth,
+        } => Status::Undecided {
+            what,
+            reached,
+            depth,
+        },
+        CheckOutcome::NotEnabled { name, state, label } => {
+            Status::NotEnabled { name, state, label }
+        }
     }
 }
 
-impl From<Memory> for Status {
-    ghost use Rattle.std.specs.Prelude.{◌≡◌};
-    ghost use Rattle.torx_tool.specs.declared.status.Status.TheVariants.{Memory as OutOfMemory};
-
-    ghost from_gives = { λ _ e. e ≡ OutOfMemory };
-
-    fn from(_error: Memory) -> Status {
-        Status::Memory
+/// The answer of `outs`.
+pub fn outs_status(outcome: OutsOutcome) -> Status
+    ensures { result ≡ status_of_outs outcome }
+{
+    match outcome {
+        OutsOutcome::Printed => Status::Printed,
+        OutsOutcome::Absent { place } => Status::Absent { place },
     }
 }
 
-impl<T: Drop> From<AllocFailed<T>> for Status {
-    ghost use Rattle.std.specs.Prelude.{◌≡◌};
-    ghost use Rattle.torx_tool.specs.declared.status.Status.TheVariants.{Memory as OutOfMemory};
+/// The answer of `angelic`.
+pub fn angelic_status(outcome: AngelicOutcome) -> Status
+    ensures { result ≡ status_of_angelic outcome }
+{
+    match outcome {
+        AngelicOutcome::Printed => Status::Printed,
+        AngelicOutcome::TooManyMoves { reached } => Status::Limit {
+            what: LimitWhat::Moves,
+            reached,
+        },
+    }
+}
 
-    ghost from_gives = { λ _ e. e ≡ OutOfMemory };
-
-    fn from(_error: AllocFailed<T>) -> Status {
-        Status::Memory
+/// The answer where files are refused.
+pub fn refusal_status(refusal: Refusal) -> Status
+    ensures { result ≡ status_of_refusal refusal }
+{
+    match refusal {
+        Refusal::TooLong { name } => Status::TooLong { name },
+        Refusal::BadFile { name, error } => Status::BadFile { name, error },
+        Refusal::BadLabels { error } => Status::BadLabels { error },
+        Refusal::Divergent { name, cycle } => Status::Divergent { name, cycle },
+        Refusal::FileFault { name } => Status::FileFault { name },
     }
 }

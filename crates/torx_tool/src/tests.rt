@@ -7,7 +7,7 @@ use std::process::Abort;
 use std::test::Fail;
 
 /// The files that the cases speak of.
-const FILES: [(&str, &str); 31] = [
+const FILES: [(&str, &str); 37] = [
     (
         "S.aut",
         "des (0,3,3)\n(0,\"?coin\",1)\n(1,\"!tea\",2)\n(1,\"!coffee\",2)\n",
@@ -60,6 +60,22 @@ const FILES: [(&str, &str); 31] = [
     ("inputs", "coin\n"),
     ("faulty", "tea\nco\u{1}in\n"),
     ("late", "?coin\n\ntau\n"),
+    // a cycle of two internal moves after one, an output on the cycle, one that can't be reached, and one after a quiet state
+    (
+        "two.aut",
+        "des (0,3,3)\n(0,\"tau\",1)\n(1,\"tau\",2)\n(2,\"tau\",1)\n",
+    ),
+    (
+        "noisy.aut",
+        "des (0,3,3)\n(0,\"tau\",1)\n(1,\"tau\",0)\n(1,\"!x\",2)\n",
+    ),
+    (
+        "far.aut",
+        "des (0,3,4)\n(0,\"!x\",1)\n(2,\"tau\",3)\n(3,\"tau\",2)\n",
+    ),
+    ("after.aut", "des (0,2,2)\n(0,\"?a\",1)\n(1,\"tau\",1)\n"),
+    ("spin.aut", "des (0,2,2)\n(0,\"tau\",1)\n(1,\"tau\",1)\n"),
+    ("quiet", "delta\n"),
 ];
 
 fn contents(alloc: Global) -> Result<Contents, Memory> {
@@ -331,5 +347,139 @@ fn tells_that_the_output_failed(rt: HostRuntime) -> Result<(), Fail> {
     let status = run(alloc, &words, &mut files, &mut out);
     assert_eq!(rt; out.written(), b"conf".as_slice());
     assert_eq!(rt; status.code(), 6);
+    Ok(())
+}
+
+#[test]
+fn reads_divergent_systems_as_quiet(rt: HostRuntime) -> Result<(), Fail> {
+    let rows: [(&str, &str, u8); 16] = [
+        (
+            "check --divergence quiet D.aut D.aut",
+            "conforms pairs=1\n",
+            0,
+        ),
+        (
+            "check --divergence quiet X.aut D.aut",
+            "violates\nshows delta\n",
+            1,
+        ),
+        (
+            "outs --divergence quiet spin.aut",
+            "states 0 1\nshows delta\n",
+            0,
+        ),
+        (
+            "outs --divergence quiet spin.aut quiet",
+            "states 1\nshows delta\n",
+            0,
+        ),
+        ("check --divergence loud D.aut D.aut", "usage value\n", 3),
+        (
+            "outs --divergence quiet two.aut quiet",
+            "states 1 2\nshows delta\n",
+            0,
+        ),
+        ("outs two.aut", "divergent two.aut 2 1\n", 4),
+        (
+            "outs --divergence quiet noisy.aut",
+            "states 0 1\nshows !x\nshows delta\n",
+            0,
+        ),
+        (
+            "outs --divergence quiet noisy.aut quiet",
+            "states 0 1\nshows !x\nshows delta\n",
+            0,
+        ),
+        (
+            "check --divergence quiet noisy.aut X.aut",
+            "conforms pairs=2\n",
+            0,
+        ),
+        (
+            "check --divergence quiet X.aut noisy.aut",
+            "violates\nshows delta\n",
+            1,
+        ),
+        ("check X.aut far.aut", "divergent far.aut 3 2\n", 4),
+        (
+            "check --divergence quiet X.aut far.aut",
+            "conforms pairs=2\n",
+            0,
+        ),
+        (
+            "outs --divergence quiet after.aut a",
+            "states 1\nshows delta\n",
+            0,
+        ),
+        (
+            "angelic --divergence quiet after.aut",
+            "des (0,3,2)\n(0,\"?a\",1)\n(1,\"tau\",1)\n(1,\"?a\",1)\n",
+            0,
+        ),
+        (
+            "check --divergence refuse S.aut D.aut",
+            "divergent D.aut 0\n",
+            4,
+        ),
+    ];
+    for (line, want, code) in rows {
+        answers(&rt, rt.alloc(), line, want, code)?;
+    }
+    Ok(())
+}
+
+/// A violation by the opening pair isn't told where that pair is above a limit.
+#[test]
+fn a_limit_comes_before_a_violation(rt: HostRuntime) -> Result<(), Fail> {
+    let rows: [(&str, &str, u8); 3] = [
+        (
+            "check --members 1 T.aut X.aut",
+            "undecided spec-members=2 depth=0\n",
+            2,
+        ),
+        (
+            "check --members 1 X.aut T.aut",
+            "undecided imp-members=2 depth=0\n",
+            2,
+        ),
+        (
+            "check --members 2 X.aut T.aut",
+            "violates\nshows delta\n",
+            1,
+        ),
+    ];
+    for (line, want, code) in rows {
+        answers(&rt, rt.alloc(), line, want, code)?;
+    }
+    Ok(())
+}
+
+/// Read k fails, for each k: the run answers with the file that is being read, and reads no more.
+#[test]
+fn a_failed_read_ends_the_run(rt: HostRuntime) -> Result<(), Fail> {
+    let alloc = rt.alloc();
+    let rows: [(&str, u64, &str); 10] = [
+        ("check --inputs inputs G.aut T.aut", 1, "fault G.aut\n"),
+        ("check --inputs inputs G.aut T.aut", 2, "fault G.aut\n"),
+        ("check --inputs inputs G.aut T.aut", 3, "fault T.aut\n"),
+        ("check --inputs inputs G.aut T.aut", 4, "fault T.aut\n"),
+        ("check --inputs inputs G.aut T.aut", 5, "fault inputs\n"),
+        ("check --inputs inputs G.aut T.aut", 6, "fault inputs\n"),
+        ("outs S.aut coin", 1, "fault S.aut\n"),
+        ("outs S.aut coin", 2, "fault S.aut\n"),
+        ("outs S.aut coin", 3, "fault coin\n"),
+        ("outs S.aut coin", 4, "fault coin\n"),
+    ];
+    for (line, failing, want) in rows {
+        let mut fails = Numbers::new(alloc);
+        fails.push(failing)?;
+        let mut files = MemFiles::new(contents(alloc)?, fails);
+        let mut out = MemSink::new(alloc, 1000, 1000, Numbers::new(alloc))?;
+        let words = words_of(alloc, line)?;
+        let status = run(alloc, &words, &mut files, &mut out);
+        assert_eq!(rt; out.written(), want.as_bytes());
+        assert_eq!(rt; status.code(), 5);
+        assert_eq!(rt; files.reads(), failing);
+    }
     Ok(())
 }

@@ -5,6 +5,8 @@ pub mod ParserSteps
 pub mod ParserWalk
 pub mod ParserEnd
 pub mod ParserLaws
-pub mod CauseLemmas
 pub mod ReadLemmas
-pub mod CommandLemmas
+pub mod ReadingLaws
+pub mod NumberLaws
+pub mod AskedLaws
+pub mod GivenLaws

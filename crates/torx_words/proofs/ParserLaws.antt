@@ -3,8 +3,8 @@ use Rattle.std.proofs.Common.{◌≡◌, ℕ, ◌∙◌, true, List, [], None, s
 use Rattle.std.specs.Prelude.{MatchOption, All}
 use Rattle.std.specs.Str.{IsUtf8}
 use Rattle.clap.specs.Words.{fault_of, is_simple_and_free, matches_of}
-use Rattle.torx_words.specs.Form.{Known, is_table, read}
-use Rattle.torx_words.specs.Parsed.{app_for, read_once, SayRows}
+use Rattle.torx_words.specs.Form.{Known, is_table, read, read_once}
+use Rattle.torx_words.specs.Parsed.{app_for, SayRows}
 use Rattle.torx_words.proofs.ParserRules.{are_rules, free, no_file, rules_for}
 use Rattle.torx_words.proofs.ParserWalk.{walk_says}
 use Rattle.torx_words.proofs.ParserEnd.{built_is, fault_at, matches_at, read_known, read_says, said, words_are}

@@ -12,9 +12,9 @@ use Rattle.clap.specs.declared.error.Error.{Error}
 use Rattle.clap.specs.declared.error.kind.ErrorKind.TheVariants as error_kind
 use Rattle.clap.specs.declared.parser.matches.ArgMatches.{ArgMatches}
 use Rattle.clap.proofs.WalkLemmas.{first_value-rows, raw_values-rows}
-use Rattle.torx_words.specs.Form.{Known, Reading, Tells, files_name, is_table}
-use Rattle.torx_words.specs.Parsed.{GivesOnce, SayRows, app_for, read_once}
-use Rattle.torx_words.specs.Taken.{told_of}
+use Rattle.torx_words.specs.Form.{Known, Reading, files_name, is_table, read_once}
+use Rattle.torx_words.specs.Parsed.{SayRows, app_for}
+use Rattle.torx_words.specs.Taken.{GivesOnce, Tells, told_of}
 use Rattle.torx_words.proofs.ParserLaws.{is_free, reads_as}
 
 -- the words are texts

@@ -1,5 +1,7 @@
--- How the words after a command are read: its options and flags, and its files.
-use Rattle.std.specs.Prelude.{◌≡◌, ℕ, ◌==◌, ◌&&◌, Bool, true, false, not, List, [], ◌∷◌, map, length, find, codes, if◌then◌else◌, nat_le, Option, Some, None, option_map, option_and_then}
+-- Promise: how the words after a command are read, its options and flags and its files: `--` ends the options (The Open Group
+-- Base Specifications, 12.2 Utility Syntax Guidelines, guideline 10), and `--NAME` and `--NAME=VALUE` are options (GNU Coding
+-- Standards, 4.8 Standards for Command Line Interfaces), whose names aren't shortened.
+use Rattle.std.specs.Prelude.{ℕ, ◌==◌, ◌&&◌, Bool, true, false, not, List, [], ◌∷◌, map, find, codes, if◌then◌else◌, Option, Some, None, option_map, option_and_then}
 use Rattle.std.specs.List.{list_any, before_first, after_first}
 use Rattle.std.specs.Str.{bytes_eq}
 
@@ -12,12 +14,6 @@ pub record Known : Type 0 where
 pub record Reading : Type 0 where
   pub options : List (List ℕ × Option (List ℕ))
   pub files : List (List ℕ)
-
--- the options of a command, and the least and the most number of its files
-pub record Shape : Type 0 where
-  pub known : List Known
-  pub least : ℕ
-  pub most : ℕ
 
 -- the word begins with `-` and has a further byte: before `--` it stands for no value and no file
 abbrev pub is_dashed : List ℕ → Bool
@@ -73,13 +69,13 @@ abbrev pub are_distinct : List (List ℕ) → Bool
 are_distinct [] = true
 are_distinct (text ∷ texts) = not (list_any (bytes_eq text) texts) && are_distinct texts
 
--- no option stands twice, and there are as many files as the command has
-abbrev pub fits : Shape → Reading → Bool
-fits shape r = are_distinct (map (λ (o : List ℕ × Option (List ℕ)). o.0) r.options) && (nat_le shape.least (length r.files) && nat_le (length r.files) shape.most)
+-- no option of the reading stands twice
+abbrev pub is_once : Reading → Bool
+is_once r = are_distinct (map (λ (o : List ℕ × Option (List ℕ)). o.0) r.options)
 
--- what the words after a command of this shape give; None where they aren't in its form
-abbrev pub reading_of : Shape → List (List ℕ) → Option Reading
-reading_of shape words = option_and_then (λ (r : Reading). if fits shape r then Some r else None) (read shape.known words None)
+-- what the words give, where no option stands twice
+abbrev pub read_once : List Known → List (List ℕ) → Option Reading
+read_once known words = option_and_then (λ (r : Reading). if is_once r then Some r else None) (read known words None)
 
 -- whether the option stands
 abbrev pub stands : List ℕ → Reading → Bool
@@ -104,19 +100,3 @@ files_name = codes "file"
 -- the options have names of their own, and none is that of the files
 abbrev pub is_table : List Known → Bool
 is_table known = are_distinct (files_name ∷ map (λ (k : Known). k.name) known)
-
--- what is told of the words: the value of each option, whether a flag stands, and the files
-pub record Told : Type 0 where
-  pub value : List ℕ → Option (List ℕ)
-  pub flag : List ℕ → Bool
-  pub files : List (List ℕ)
-
--- what is told is what the words give
-pub record Tells (known : List Known) (r : Reading) (t : Told) : Type 0 where
-  pub values : (name : List ℕ) → has_valued name known ≡ true → t.value name ≡ value_of name r
-  pub flags : (name : List ℕ) → has_flag name known ≡ true → t.flag name ≡ stands name r
-  pub files : t.files ≡ r.files
-
--- the words are read, and this is told of them
-abbrev pub ReadsTo : Shape → List (List ℕ) → Told → Type 0
-ReadsTo shape words t = (r : Reading) × (reading_of shape words ≡ Some r) × Tells shape.known r t

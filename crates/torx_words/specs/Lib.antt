@@ -1,6 +1,7 @@
 pub mod Form
-pub mod Asked
+pub mod Values
+pub mod Accepted
+pub mod Meaning
+pub mod Named
 pub mod Taken
 pub mod Parsed
-pub mod Named
-pub mod Steps

@@ -1,14 +1,16 @@
-//! The words of the command line: read by a parser, by the rule that the definitions give, and
-//! turned into what a command is asked for.
+//! The words after a command, by any table of options: which are accepted, what they give, and why
+//! others are refused. No command is known here.
 #![tactic(auto)]
 
 pub mod asked;
-mod commands;
+mod checks;
+pub mod form;
+pub mod given;
 pub mod kind;
 mod parse;
-#[cfg(test)]
-mod tests;
+mod values;
 
-pub use asked::{Angelic, Check, Command, Outs, Sorting};
-pub use commands::command_of;
+pub use asked::Sorting;
+pub use form::{Form, NamedOption, ValueKind};
+pub use given::{Given, read_words};
 pub use kind::{UsageKind, WordsError};

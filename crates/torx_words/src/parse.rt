@@ -1,114 +1,155 @@
 //! Reads the words after a command with a parser of command lines.
-ghost use Rattle.std.specs.Prelude.{◌≡◌, ◌≢◌, true, false, map, IfOk, MatchResult, None};
+ghost use Rattle.std.specs.Prelude.{◌≡◌, true, false, map, IfOk};
 ghost use Rattle.std.specs.Option.{option_map};
 ghost use Rattle.std.specs.String.{string_bytes};
 ghost use Rattle.clap.specs.Words.{app_of, rule_of};
-ghost use Rattle.torx_words.specs.Form.{ReadsTo, reading_of, is_table};
-ghost use Rattle.torx_words.specs.Asked.{valued as valued_known, flag as flag_known};
-ghost use Rattle.torx_words.specs.Taken.{told_of};
-ghost use Rattle.torx_words.specs.Parsed.{GivesOnce, app_for, bare_app, files_rule, read_once, rule_for};
-ghost use Rattle.torx_words.specs.Named.{known_from, shape_from, IsCauseOf};
-ghost use Rattle.torx_words.specs.declared.kind.UsageKind.TheVariants.{Words};
+ghost use Rattle.torx_words.specs.Accepted.{is_valued, known_of};
+ghost use Rattle.torx_words.specs.Form.{has_flag, has_valued, is_table, stands as stands_in, value_of};
+ghost use Rattle.torx_words.specs.Taken.{IsReadAs, IsWordsUnless, told_of};
+ghost use Rattle.torx_words.specs.Parsed.{app_for, bare_app, files_rule, flag_known, rule_for, valued_known};
+ghost use Rattle.torx_words.specs.Named.{entry_from};
 
+use crate::form::{NamedOption, ValueKind};
 use crate::kind::{UsageKind, WordsError};
 use clap::error::ErrorKind;
 use clap::{Arg, ArgAction, ArgMatches, Command};
 use std::alloc::{AllocError, Global};
+use std::marker::Model;
 
 /// The name under which the parser keeps the files.
 const FILES: &str = "file";
 
-/// An option of a command.
-#[derive(Clone, Copy, Debug)]
-pub struct NamedOption<'a> {
-    /// Its name, without the dashes.
-    pub name: &'a str,
-    /// Whether a value follows it; without one it is a flag.
-    pub valued: bool,
-}
-
-/// The form of the words after a command.
-#[derive(Clone, Copy, Debug)]
-pub struct Form<'a> {
-    /// The options.
-    pub options: &'a [NamedOption<'a>],
-    /// The least number of files.
-    pub least: usize,
-    /// The most files.
-    pub most: usize,
-}
-
-/// What the words after a command give.
+/// What words give by a table of options, with any number of files. The words say what was read.
 #[derive(Drop)]
-pub struct Given<'a> {
+pub(crate) struct Parsed<'a> {
+    options: &'a [NamedOption<'a>],
+    words: &'a [String],
     matches: ArgMatches<'a>,
 }
 
-impl<'a> Given<'a> {
+impl<'a> Model for Parsed<'a> {
+    ghost use Rattle.std.specs.Prelude.{map};
+    ghost use Rattle.std.specs.String.{string_bytes};
+    ghost use Rattle.torx_words.specs.Accepted.{known_of};
+    ghost use Rattle.torx_words.specs.Named.{entry_from};
+    ghost use Rattle.torx_words.specs.Taken.{GivesOnce, ReadWords, reading_from, told_of};
+
+    ghost Value = { ReadWords };
+
+    ghost view = { λ p. record { options = map entry_from p.options.now; reading = reading_from p.options.now p.words.now } };
+
+    ghost invariant = { λ p. GivesOnce (map known_of (map entry_from p.options.now)) (map string_bytes p.words.now) (told_of p.matches) };
+}
+
+impl<'a> Parsed<'a> {
     /// The value of an option, where it stands.
-    pub fn value(&self, name: &str) -> Option<&'a str>
-        ensures { option_map (λ (w : _). w.now) result ≡ (told_of self.now.matches).value name.now }
+    pub(crate) fn value(&self, name: &str) -> Option<&'a str>
+        ensures { option_map (λ (w : _). w.now) result ≡ value_of name.now self.now.reading }
     {
-        self.matches.get_str(name)
+        if has_value(self.options, name) {
+            self.matches.get_str(name)
+        } else {
+            None
+        }
     }
 
-    /// Whether a flag stands.
-    pub fn flag(&self, name: &str) -> bool
-        ensures { result ≡ (told_of self.now.matches).flag name.now }
+    /// Whether an option stands.
+    pub(crate) fn stands(&self, name: &str) -> bool
+        ensures { result ≡ stands_in name.now self.now.reading }
     {
-        match self.matches.get_str(name) {
-            Some(text) => text == "true",
-            None => false,
+        if is_flag(self.options, name) {
+            told_flag(&self.matches, name)
+        } else {
+            self.value(name).is_some()
         }
     }
 
     /// The files, in the order of the words.
-    pub fn files(&self) -> &[&'a str]
-        ensures { map (λ (w : _). w.now) result.now ≡ (told_of self.now.matches).files }
+    pub(crate) fn files(&self) -> &[&'a str]
+        ensures { map (λ (w : _). w.now) result.now ≡ self.now.reading.files }
     {
-        self.matches.get_strs(FILES).unwrap_or_default()
+        told_files(&self.matches)
     }
 }
 
-/// What the words give, by the form; otherwise they aren't in it, or memory ran out.
-pub fn read_words<'a>(
-    alloc: Global,
-    form: &Form<'a>,
-    words: &'a [String],
-) -> Result<Given<'a>, WordsError>
-    requires { is_table (shape_from form.now).known ≡ true }
-    ensures { MatchResult result (λ g. ReadsTo (shape_from form.now) (map string_bytes words.entry.now) (told_of g.matches)) (IsCauseOf (λ kind. (kind ≡ Words) × (reading_of (shape_from form.now) (map string_bytes words.entry.now) ≡ None))) }
+/// Whether the flag stands.
+fn told_flag(matches: &ArgMatches<'_>, name: &str) -> bool
+    ensures { result ≡ (told_of matches.now).flag name.now }
 {
-    let given = parsed(alloc, form.options, words)?;
-    let count = given.files().len();
-    if count < form.least {
-        return Err(WordsError::Usage(UsageKind::Words));
+    match matches.get_str(name) {
+        Some(text) => text == "true",
+        None => false,
     }
-    if count > form.most {
-        return Err(WordsError::Usage(UsageKind::Words));
+}
+
+/// The files.
+fn told_files<'m, 'a>(matches: &'m ArgMatches<'a>) -> &'m [&'a str]
+    ensures { map (λ (w : _). w.now) result.now ≡ (told_of matches.now).files }
+{
+    matches.get_strs(FILES).unwrap_or_default()
+}
+
+/// Whether an option of this name stands in the table, with a value.
+fn has_value(options: &[NamedOption<'_>], name: &str) -> bool
+    ensures { result ≡ has_valued name.now (map known_of (map entry_from options.now)) }
+{
+    for option in options {
+        if takes_value(option.kind) && option.name == name {
+            return true;
+        }
     }
-    Ok(given)
+    false
+}
+
+/// Whether a flag of this name stands in the table.
+fn is_flag(options: &[NamedOption<'_>], name: &str) -> bool
+    ensures { result ≡ has_flag name.now (map known_of (map entry_from options.now)) }
+{
+    for option in options {
+        if !takes_value(option.kind) && option.name == name {
+            return true;
+        }
+    }
+    false
+}
+
+/// Whether a value follows an option of this kind.
+fn takes_value(kind: ValueKind) -> bool
+    ensures { result ≡ is_valued kind }
+{
+    match kind {
+        ValueKind::Flag => false,
+        ValueKind::Marks => true,
+        ValueKind::Divergence => true,
+        ValueKind::Name => true,
+        ValueKind::Number { .. } => true,
+    }
 }
 
 /// What the words give, with any number of files.
-fn parsed<'a>(
+pub(crate) fn parse_words<'a>(
     alloc: Global,
     options: &'a [NamedOption<'a>],
     words: &'a [String],
-) -> Result<Given<'a>, WordsError>
-    requires { is_table (map known_from options.now) ≡ true }
-    ensures { MatchResult result (λ g. GivesOnce (map known_from options.now) (map string_bytes words.entry.now) (told_of g.matches)) (IsCauseOf (λ kind. (kind ≡ Words) × (read_once (map known_from options.now) (map string_bytes words.entry.now) ≡ None))) }
+) -> Result<Parsed<'a>, WordsError>
+    requires { is_table (map known_of (map entry_from options.now)) ≡ true }
+    ensures options { IfOk result (λ p. p.options ≡ map entry_from options.now) }
+    ensures read { IsReadAs (map entry_from options.now) (map string_bytes words.entry.now) result }
 {
     let command = command_for(alloc, options)?;
     match command.try_get_matches_from(words) {
-        Ok(matches) => Ok(Given { matches }),
+        Ok(matches) => Ok(Parsed {
+            options,
+            words,
+            matches,
+        }),
         Err(error) => Err(refused(error.kind())),
     }
 }
 
 /// Every refusal of the parser but want of memory says that the words aren't in the form.
 fn refused(kind: ErrorKind) -> WordsError
-    ensures { IsCauseOf (λ usage. (usage ≡ Words) × (kind ≢ ErrorKind.OutOfMemory)) result }
+    ensures { IsWordsUnless (kind ≡ ErrorKind.OutOfMemory) result }
 {
     match kind {
         ErrorKind::OutOfMemory => WordsError::Memory,
@@ -118,7 +159,7 @@ fn refused(kind: ErrorKind) -> WordsError
 
 /// The command with these options and any number of files.
 fn command_for<'a>(alloc: Global, options: &'a [NamedOption<'a>]) -> Result<Command<'a>, AllocError>
-    ensures { IfOk result (λ c. app_of c ≡ app_for (map known_from options.entry.now)) }
+    ensures { IfOk result (λ c. app_of c ≡ app_for (map known_of (map entry_from options.entry.now))) }
 {
     let mut command = bare(alloc);
     for option in options {
@@ -146,10 +187,10 @@ fn files<'a>(alloc: Global) -> Arg<'a>
 
 /// The option, as the parser takes it.
 fn argument<'a>(alloc: Global, option: NamedOption<'a>) -> Arg<'a>
-    ensures rule { rule_of result ≡ rule_for (known_from option.entry) }
+    ensures rule { rule_of result ≡ rule_for (known_of (entry_from option.entry)) }
     ensures own { result.global ≡ false }
 {
-    if option.valued {
+    if takes_value(option.kind) {
         valued(alloc, option.name)
     } else {
         flag(alloc, option.name)

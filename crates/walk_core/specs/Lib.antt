@@ -1,3 +1,7 @@
 pub mod Walked
 pub mod Refused
-pub mod Plain
+pub mod Taken
+pub mod Interned
+pub mod Edges
+pub mod Listed
+pub mod Mapped

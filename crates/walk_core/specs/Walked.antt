@@ -1,5 +1,6 @@
--- What a walk stands for, and what its calls do to it.
-use Rattle.std.specs.Prelude.{◌≡◌, ℕ, ◌+◌, ◌<◌, ◌≤◌, List, [], ◌++◌, length, All, Contains, Option, Some, None, slice_index_or as get_or}
+-- Promise: what a walk stands for, and what its calls do to it.
+use Rattle.lts_base.specs.declared.limits.TheConstants.{MOST_MEMBERS}
+use Rattle.std.specs.Prelude.{◌≡◌, ℕ, ◌+◌, ◌<◌, ◌≤◌, List, [], ◌∷◌, ◌++◌, length, All, Contains, Option, Some, None, slice_index_or as get_or}
 use Rattle.std.specs.List.Sorted.{IsStrictlyIncreasing}
 use Rattle.lts_base.specs.declared.item.Item.{Item}
 use Rattle.lts_base.specs.System.{System, IsSystem}
@@ -26,9 +27,9 @@ pub record IsSetOf (s : System) (ps : List ℕ) : Type 0 where
 pub record IsWalk (w : Walked) : Type 0 where
   pub system : IsSystem w.system
   pub sets : All (IsSetOf w.system) w.sets
-  pub once : (j k : ℕ) → j < k → k < length w.sets → set_at w.sets j ≡ set_at w.sets k → ⊥
+  pub once : (j k : ℕ) → j < k → k < length w.sets → ¬ (set_at w.sets j ≡ set_at w.sets k)
   pub within : total_members w.sets ≤ w.limit
-  pub limit : w.limit ≤ 33554432
+  pub limit : w.limit ≤ MOST_MEMBERS
 
 -- the walk holds the set after the empty trace, and no other
 pub record IsFresh (w : Walked) : Type 0 where
@@ -49,9 +50,18 @@ IsStep old new k x None = IsNext old.system x (set_at old.sets k) [] × (new.set
 IsStep old new k x (Some n) = (qs : List ℕ) × IsNext old.system x (set_at old.sets k) qs × IsSetOf old.system qs ×
     (new.sets ≡ with_new old.sets qs) × (n < length new.sets) × (set_at new.sets n ≡ qs)
 
+-- the node, if there is one, is that of the set after the trace; there is none exactly where that set is empty
+abbrev pub IsNodeAfter : Walked → List Item → Option ℕ → Type 0
+IsNodeAfter w σ None = IsSetAfter w.system σ []
+IsNodeAfter w σ (Some n) = (n < length w.sets) × (0 < length (set_at w.sets n)) × IsSetAfter w.system σ (set_at w.sets n)
+
+-- from the node of the set after a trace, the step led to the node of the set after the trace with the item
+abbrev pub LeadsTo : Walked → Walked → ℕ → Item → Option ℕ → Type 0
+LeadsTo old new k x to = (σ : List Item) → IsSetAfter old.system σ (set_at old.sets k) → IsNodeAfter new (σ ++ x ∷ []) to
+
 -- the next set isn't empty and isn't there, and with it the sizes would add up to `reached`, above the limit
 abbrev pub IsFull : Walked → ℕ → Item → ℕ → Type 0
-IsFull w k x reached = (qs : List ℕ) × IsNext w.system x (set_at w.sets k) qs × IsSetOf w.system qs × (Contains w.sets qs → ⊥) ×
+IsFull w k x reached = (qs : List ℕ) × IsNext w.system x (set_at w.sets k) qs × IsSetOf w.system qs × (¬ Contains w.sets qs) ×
     (reached ≡ total_members w.sets + length qs) × (w.limit < reached)
 
 -- the lists are the sets after the traces, one for each

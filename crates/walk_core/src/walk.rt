@@ -1,13 +1,13 @@
 //! The trait of all walks: what each call answers, and what it does to the list of sets.
-ghost use Rattle.std.specs.Prelude.{◌≡◌, ℕ, ◌+◌, ◌<◌, ◌↔◌, List, [], ◌∷◌, ◌++◌, length, Contains, IsTrue, IfOk, IfErr, OnErr, MatchResult, Option};
+ghost use Rattle.std.specs.Prelude.{◌≡◌, ℕ, ◌+◌, ◌<◌, ◌≤◌, ◌↔◌, [], length, IsTrue, IfOk, IfErr, OnErr};
 ghost use Rattle.std.specs.Option.{option_map};
-ghost use Rattle.lts_base.specs.declared.item.Item.{Item as TheItem};
-ghost use Rattle.lts_base.specs.System.{IsItemOf};
-ghost use Rattle.lts_base.specs.Path.{Has};
+ghost use Rattle.lts_base.specs.System.{IsItemOf, label_count};
 ghost use Rattle.lts_base.specs.After.{IsSetAfter, Shows, Allows};
 ghost use Rattle.lts_base.specs.Reached.{total_members};
-ghost use Rattle.walk_core.specs.Walked.{Walked, set_at, IsWalk, Grows, IsStep, IsFull, IsAccount, HasAccountOf};
-ghost use Rattle.walk_core.specs.Refused.{Refuses, RefusesAccount};
+ghost use Rattle.state_sets.specs.Finds.{IsLeastFrom, IsTakenIn};
+ghost use Rattle.walk_core.specs.Walked.{Walked, set_at, IsWalk, Grows, IsStep, LeadsTo};
+ghost use Rattle.walk_core.specs.Taken.{Took};
+ghost use Rattle.walk_core.specs.Refused.{Refuses, KeepsAccount};
 
 use crate::node::Node;
 use crate::steps::Steps;
@@ -42,6 +42,9 @@ impl From<Memory> for WalkError {
 pub trait Walk {
     ghost walked: { Self → Walked };
 
+    // how many steps it took, modulo 2^64
+    ghost taken: { Self → ℕ };
+
     /// The node of the set after the empty trace.
     fn begin(&self) -> Node
         ensures node { result.0 < length (walked self.now).sets }
@@ -49,7 +52,7 @@ pub trait Walk {
         ensures walk { IsWalk (walked self.now) };
 
     /// One step by an item: the node of the set that it leads to, or None where that set is
-    /// empty. Each call counts one step.
+    /// empty. Each call counts one step, in the walk and in `steps`, also where it is refused.
     fn step<L: Ledger>(
         &mut self,
         node: Node,
@@ -61,9 +64,11 @@ pub trait Walk {
         ensures walk { IsWalk (walked self.new) }
         ensures grows { Grows (walked self.old) (walked self.new) }
         ensures ok { IfOk result (λ to. IsStep (walked self.old) (walked self.new) node.0 item (option_map (λ (n : _). n.0) to)) }
+        ensures after { IfOk result (λ to. LeadsTo (walked self.old) (walked self.new) node.0 item (option_map (λ (n : _). n.0) to)) }
         ensures err { IfErr result (λ e. Refuses (walked self.old) node.0 item e) }
         ensures same { OnErr result (walked self.new ≡ walked self.old) }
-        ensures account { (traces : List (List TheItem)) (σ : List TheItem) → IsAccount (walked self.old) traces → IsSetAfter (walked self.old).system σ (set_at (walked self.old).sets node.0) → Has (walked self.old).system (σ ++ item ∷ []) → MatchResult result (λ _. IsAccount (walked self.new) (traces ++ (σ ++ item ∷ []) ∷ [])) (λ e. RefusesAccount (walked self.old) (traces ++ (σ ++ item ∷ []) ∷ []) e) }
+        ensures account { KeepsAccount (walked self.old) (walked self.new) node.0 item result }
+        ensures taken { Took (taken self.old) (taken self.new) 1 }
         ensures steps { steps.new ≡ steps.old + 1 };
 
     /// Whether the node's set allows the item.
@@ -79,6 +84,14 @@ pub trait Walk {
         requires item { IsItemOf (walked self.now).system item }
         requires walk { IsWalk (walked self.now) }
         ensures { IsTrue result ↔ Shows (walked self.now).system (set_at (walked self.now).sets node.0) item };
+
+    /// The least label from `from` on with which a move leaves some member of the node's set; where
+    /// there is none, the number of labels.
+    fn label_from(&self, node: Node, from: u32) -> u32
+        requires node { node.0 < length (walked self.now).sets }
+        requires from { from ≤ label_count (walked self.now).system }
+        requires walk { IsWalk (walked self.now) }
+        ensures { IsLeastFrom (IsTakenIn (walked self.now).system (set_at (walked self.now).sets node.0)) from (label_count (walked self.now).system) result };
 
     /// The states of the node's set, in ascending order.
     fn states(&self, node: Node) -> &[u32]

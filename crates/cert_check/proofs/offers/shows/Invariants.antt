@@ -3,4 +3,4 @@ use Rattle.lts_base.specs.After.{Gives}
 use Rattle.cert_check.proofs.offers.shows.Given as goal
 
 abbrev pub invariant-states : goal.invariant-states
-invariant-states l = (k d : ℕ) → k < l.state-index → Gives l.lts (get_or l.list k d) l.item → ⊥
+invariant-states l = (k d : ℕ) → k < l.state-index → Gives l.side (get_or l.list k d) l.item → ⊥

@@ -7,8 +7,8 @@ pub items-init : goal.items-init
 items-init c = record {
   marks = c.in_ok-set.ensures.states ∙ c.in_ok-marks.ensures.states ∙ c.states-states.ensures.states;
   place = refl;
-  within = c.in_ok-set.ensures.within;
-  walked = allowed_to-none _ _ _ _ c.in_ok-set.ensures.opening;
+  within = rw c.lts.ensures at c.in_ok-set.ensures.within;
+  walked = allowed_to-none _ c.args.spec.now _ _ (rw c.lts.ensures at c.in_ok-set.ensures.opening);
 }
 
 pub returns-then-not-allows : goal.returns-then-not-allows

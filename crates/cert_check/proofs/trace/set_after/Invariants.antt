@@ -4,7 +4,7 @@ use Rattle.cert_check.proofs.trace.set_after.Given as goal
 
 abbrev pub invariant-items : goal.invariant-items
 invariant-items l = record {
-  marks : l.marks.states ≡ l.lts.states;
-  within : All (λ q. q < l.lts.states) l.set.items;
-  walked : IsSetAt l.lts l.items l.item-index l.set.items;
+  marks : l.marks.states ≡ l.side.states;
+  within : All (λ q. q < l.side.states) l.set.items;
+  walked : IsSetAt l.side l.items l.item-index l.set.items;
 }

@@ -1,16 +1,17 @@
 use Rattle.std.proofs.Common.{◌+◌, ◌*◌, ◌-◌, ◌≤◌, length}
-use Rattle.conf_decide.specs.Decided.{IsKept}
-use Rattle.conf_decide.specs.Progress.{IsSetting, IsRunOf}
+use Rattle.walk_core.specs.Walked.{Grows}
+use Rattle.conf_decide.specs.Progress.{IsSetting, IsRunOf, TookBoth}
 use Rattle.conf_decide.proofs.decide.look_on.Given as goal
 
 abbrev pub invariant-pairs : goal.invariant-pairs
 invariant-pairs g l =
     record {
       setting : IsSetting l.setting (g.A.Walk.walked l.imp) (g.B.Walk.walked l.spec);
-      imp : IsKept (g.A.Walk.walked l.fn.imp) (g.A.Walk.walked l.imp);
-      spec : IsKept (g.B.Walk.walked l.fn.spec) (g.B.Walk.walked l.spec);
+      imp : Grows (g.A.Walk.walked l.fn.imp) (g.A.Walk.walked l.imp);
+      spec : Grows (g.B.Walk.walked l.fn.spec) (g.B.Walk.walked l.spec);
       run : IsRunOf l.setting (g.A.Walk.walked l.imp) (g.B.Walk.walked l.spec) l.table l.at 0;
       within : l.at ≤ length l.table;
+      taken : TookBoth (g.A.Walk.taken l.fn.imp) (g.A.Walk.taken l.imp) (g.B.Walk.taken l.fn.spec) (g.B.Walk.taken l.spec) (2 * (l.at * (l.setting.inputs + l.setting.outputs + 1)));
       steps : l.steps ≤ l.fn.steps + 2 * (l.at * (l.setting.inputs + l.setting.outputs + 1));
     }
 

@@ -2,6 +2,7 @@ use Rattle.std.proofs.lemmas.Bool.{iff_false}
 use Rattle.std.proofs.lemmas.Result.{IfOk-weaker}
 use Rattle.conf_decide.proofs.WrongLaws.{item_imp, item_spec}
 use Rattle.conf_decide.proofs.LookLaws.{few_pairs, small_depth, small_at, look_skip, look, look_empty, look_there, look_newest, look_tested, look_imp_full, look_spec_full}
+use Rattle.conf_decide.proofs.GrowLaws.{took_none, Grows-same}
 use Rattle.conf_decide.proofs.look.look.Goals as goal
 
 pub allows-requires-clause-item : goal.allows-requires-clause-item
@@ -64,3 +65,12 @@ returns-else-has-clause-outcome g c =
     let lk = look _ _ _ _ _ _ _ _ _ _ c.requires.setting c.item_at-item.ensures.item c.item_at-item.ensures.place c.requires.run c.requires.at c.at-from.ensures (c.allows.ensures.0 c.if-not-allows.false)
     c.in_ok-step_both.ensures.imp c.in_ok-step_both.ensures.spec c.in_ok-step_both.ensures.imp_walk c.in_ok-step_both.ensures.spec_walk in
     IfOk-weaker c.add.result _ _ (λ answer tested. look_tested _ _ _ _ _ _ _ _ _ _ lk _ _ _ c.in-Pair.is c.in_ok-step_both.ensures.pace (iff_false c.has.ensures c.if-has.false) c.add.new.table answer tested) c.add.ensures.tested
+
+pub returns-then-not-allows-clause-taken : goal.returns-then-not-allows-clause-taken
+returns-then-not-allows-clause-taken g c = took_none _ _ _
+
+pub returns-then-not-allows-clause-imp : goal.returns-then-not-allows-clause-imp
+returns-then-not-allows-clause-imp g c = Grows-same _
+
+pub returns-then-not-allows-clause-spec : goal.returns-then-not-allows-clause-spec
+returns-then-not-allows-clause-spec g c = Grows-same _

@@ -1,5 +1,5 @@
-use Rattle.std.proofs.Common.{arith, rules, ◌∙◌}
-use Rattle.edge_io.proofs.OutsideLaws.{front_more}
+use Rattle.std.proofs.Common.{rules}
+use Rattle.edge_io.proofs.OutsideLaws.{front_more, KeepsFiles-then}
 use Rattle.edge_io.proofs.load.join_pieces.Goals as goal
 
 pub loop-content-preserved : goal.loop-content-preserved
@@ -9,7 +9,6 @@ loop-content-preserved g c =
     record {
       room = search rules;
       short = search rules;
-      front = front_more _ _ _ _ _ _ _ (inv.same c.args.name.now) (search rules) items c.in_ok-count.ensures.count inv.front c.in_ok-count.ensures.bytes;
-      same = λ other. c.in_ok-count.ensures.same other ∙ inv.same other;
-      later = λ other. omega (arith, inv.later other, c.in_ok-count.ensures.later other);
+      front = front_more _ _ _ _ _ _ _ (inv.keeps.contents c.args.name.now) (search rules) items c.in_ok-count.ensures.count inv.front c.in_ok-count.ensures.bytes;
+      keeps = KeepsFiles-then inv.keeps c.in_ok-count.ensures.keeps;
     }

@@ -21,9 +21,10 @@ returns-in-Ok-clause-ok c =
     let given : c.in_ok-moves.moves ≡ map (renumbered c.in_ok-numbers.numbers.items) c.args.raw.now.moves =
     rw (c.as_slice-2.ensures, c.moves.ensures.moves, c.deref.ensures.value) at c.in_ok-moves.ensures in
     record {
-      states = c.in-Ok.ensures.ok.0 ∙ c.states.ensures.states;
-      start = c.in-Ok.ensures.ok.1 ∙ c.start.ensures.start;
-      inputs = c.in-Ok.ensures.ok.2;
-      outputs = c.in-Ok.ensures.ok.3;
+      states = c.in-Ok.ensures.ok.states ∙ c.states.ensures.states;
+      start = c.in-Ok.ensures.ok.start ∙ c.start.ensures.start;
+      inputs = c.in-Ok.ensures.ok.inputs;
+      outputs = c.in-Ok.ensures.ok.outputs;
+      divergence = c.in-Ok.ensures.ok.divergence;
       moves = (_, moves, rw (← given) c.in-Ok.ensures.moves);
     }

@@ -1,5 +1,7 @@
 use Rattle.std.proofs.Common.{Contains, subst, sym, All}
+use Rattle.std.proofs.lemmas.List.Elements.{All-push}
 use Rattle.lts_base.specs.Raw.{RawSystem}
+use Rattle.lts_base.specs.System.{IsSystem}
 use Rattle.lts_base.proofs.SortingLaws.{All-labels_of, AreSystemsFor-step}
 use Rattle.lts_base.proofs.sorting.systems_of.Goals as goal
 
@@ -10,5 +12,8 @@ system_of-requires c =
 
 pub systems-preserved : goal.systems-preserved
 systems-preserved c =
-    rw c.in_ok-push.ensures.ok (AreSystemsFor-step c.args.labels.now c.args.raw.now c.systems.systems c.systems.system-index c.system-item.result c.in_ok-system_of.field-0 c.systems.invariant
-    c.systems-test.true c.system-item.is c.in_ok-system_of.ensures.ok)
+    rw c.in_ok-push.ensures.ok (record {
+      over = AreSystemsFor-step c.args.labels.now c.args.raw.now c.systems.systems c.systems.system-index c.system-item.result c.in_ok-system_of.field-0 c.systems.invariant.over
+          c.systems-test.true c.system-item.is c.in_ok-system_of.ensures.ok;
+      sound = All-push IsSystem _ _ c.systems.invariant.sound c.in_ok-system_of.ensures.sound;
+    })

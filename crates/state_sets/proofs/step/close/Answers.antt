@@ -12,8 +12,8 @@ pub finds-preserved : goal.finds-preserved
 finds-preserved c =
     let below : c.finds.at < length c.finds.search.found = omega (arith, c.finds-test.true, c.len.ensures.value) in
     record {
-      states = c.in_ok-spread.ensures.states ∙ c.finds.invariant.states;
-      closing = IsClosing-more _ _ _ _ _ _ below c.at-state.ensures.value c.in_ok-spread.ensures.adds c.finds.invariant.closing;
+      states = c.in_ok-spread_tau.ensures.states ∙ c.finds.invariant.states;
+      closing = IsClosing-more _ _ _ _ _ _ below c.at-state.ensures.value c.in_ok-spread_tau.ensures.adds c.finds.invariant.closing;
     }
 
 pub returns-clause-closure : goal.returns-clause-closure

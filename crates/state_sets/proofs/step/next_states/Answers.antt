@@ -1,8 +1,8 @@
-use Rattle.state_sets.proofs.Reaching.{IsNext-from_reached}
+use Rattle.state_sets.proofs.Reaching.{IsNext-from_found}
 use Rattle.state_sets.proofs.step.next_states.Goals as goal
 
 pub returns-clause-next : goal.returns-clause-next
-returns-clause-next c = IsNext-from_reached _ _ _ _ _ _ c.in_ok-see.ensures.seen c.in_ok-close.ensures.closure (record {
+returns-clause-next c = IsNext-from_found c.args.lts.now _ _ _ _ c.in_ok-find_next.ensures.found (record {
   rising = c.in_ok-states.ensures.rising;
   each = c.in_ok-states.ensures.each;
   all = c.in_ok-states.ensures.all;

@@ -1,6 +1,5 @@
-use Rattle.std.proofs.Common.{◌≡◌, ap, sym, ◌∙◌, not, Bool, true}
-use Rattle.std.specs.Ordering.{nat_cmp}
-use Rattle.std.specs.BTreeSet.{Updates}
+use Rattle.std.proofs.Common.{eqb, ◌≡◌, ap, sym, ◌∙◌, not, Bool, true}
+use Rattle.std.specs.HashSet.{Updates}
 use Rattle.conf_decide.proofs.TableLaws.{AreKeys-push, popped, on_ok, on_err}
 use Rattle.conf_decide.proofs.table.Table.push.Goals as goal
 
@@ -14,5 +13,5 @@ invariant_of-self-then-is_err c =
 pub invariant_of-self-else-is_err : goal.invariant_of-self-else-is_err
 invariant_of-self-else-is_err c =
     let fine = c.is_err.ensures.negation ∙ ap {A = Bool} {B = Bool} not c.if-is_err.false in
-    let updates = on_ok {P = Updates nat_cmp c.self.inside.keys c.insert.new.self c.key_of.result true} _ fine c.insert.ensures.updates in
-    rw c.in_ok-push.ensures.items (AreKeys-push _ _ _ _ c.key_of.ensures.small c.self.invariant (rw c.key_of.ensures.key at updates))
+    let updates = on_ok {P = Updates eqb c.self.inside.keys c.insert.new.self c.key_of.result true} _ fine c.insert.ensures.updates in
+    rw c.in_ok-push.ensures.items (AreKeys-push _ _ c.self.inside.keys c.insert.new.self c.key_of.ensures.small c.self.invariant (rw c.key_of.ensures.key at updates))

@@ -25,14 +25,19 @@ invariant_of-result c =
     let whole : c.count-count.result ≡ c.inputs-inputs.result + (c.count-count.result - c.inputs-inputs.result) = omega arith in
     let given : All (IsMoveOf c.args.states c.count-count.result) c.args.moves = rw c.as_slice.ensures at c.in_ok-test_moves.ensures in
     let owned : All (IsMoveOf c.args.states c.count-count.result) c.into_vec-moves.result.items = rw c.into_vec-moves.ensures given in
-    let sorted = AllMoves-permuted c.args.states c.count-count.result _ _ c.sort_unstable.ensures.permutation owned in (
-      record {
+    let sorted = AllMoves-permuted c.args.states c.count-count.result _ _ c.sort_unstable.ensures.permutation owned in
+    record {
+      system = record {
         start = c.in_ok-test_start.ensures;
         states = c.ranges.states.fits;
         few = omega arith;
         moves = subst (λ (n : ℕ). All (IsMoveOf c.args.states n) c.sort_unstable.new.self.items) whole sorted;
         sorted = AreSorted-from_sort _ c.sort_unstable.ensures.sorted;
-      },
-      by_state_from_sorted _ total-law (λ x y lt. let e : nat_lt x.from y.from ≡ true = (Decides-ltb x.from y.from).1 lt in rw e refl) _ c.sort_unstable.ensures.sorted,
-      rw (← c.deref.ensures.value) c.in_ok-offsets.ensures,
-    )
+      };
+      by_state = by_state_from_sorted _ total-law (λ x y lt. let e : nat_lt x.from y.from ≡ true = (Decides-ltb x.from y.from).1 lt in rw e refl) _ c.sort_unstable.ensures.sorted;
+      offsets = rw (← c.deref.ensures.value) c.in_ok-offsets.ensures;
+      flags = c.new.ensures.items;
+    }
+
+pub returns-clause-system : goal.returns-clause-system
+returns-clause-system c = (invariant_of-result c).system

@@ -1,0 +1,2 @@
+pub mod Angelic
+pub mod Named

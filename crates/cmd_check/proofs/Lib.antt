@@ -1,0 +1,2 @@
+pub mod PrintableLaws
+pub mod OnceLaws

@@ -1,0 +1,11 @@
+//! `check`: whether an implementation conforms to its specification.
+#![tactic(auto)]
+
+mod command;
+mod decision;
+mod outcome;
+mod text;
+mod words;
+
+pub use command::check;
+pub use outcome::CheckOutcome;

@@ -1,0 +1,4 @@
+pub mod StopLaws
+pub mod OfferLaws
+pub mod TakenLaws
+pub mod OnceLaws

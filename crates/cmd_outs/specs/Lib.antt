@@ -1,0 +1,4 @@
+pub mod Asked
+pub mod Outs
+pub mod Taken
+pub mod Followed

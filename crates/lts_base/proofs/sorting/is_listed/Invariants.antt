@@ -1,7 +1,0 @@
-use Rattle.std.proofs.Common.{◌≡◌, drop}
-use Rattle.std.specs.List.{list_any}
-use Rattle.std.specs.Str.{bytes_eq}
-use Rattle.lts_base.proofs.sorting.is_listed.Given as goal
-
-abbrev pub invariant-loop-listed : goal.invariant-loop-listed
-invariant-loop-listed l = list_any (bytes_eq l.text) (drop l.listed-index l.texts) ≡ list_any (bytes_eq l.text) l.texts

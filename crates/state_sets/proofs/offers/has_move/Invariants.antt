@@ -1,6 +1,0 @@
-use Rattle.std.proofs.Common.{◌≡◌, ℕ, ◌<◌, get_or}
-use Rattle.lts_base.specs.declared.action.Move.{Move}
-use Rattle.state_sets.proofs.offers.has_move.Given as goal
-
-abbrev pub invariant-moves : goal.invariant-moves
-invariant-moves l = (k : ℕ) (d : Move) → k < l.m-index → (get_or l.moves k d).act ≡ l.act → ⊥

@@ -1,0 +1,4 @@
+pub mod LoadLaws
+pub mod StoppedLaws
+pub mod InputOnce
+pub mod CommandLaws

@@ -1,0 +1,9 @@
+pub mod Contents
+pub mod Kinds
+pub mod Sources
+pub mod Pages
+pub mod Once
+pub mod Loads
+pub mod Loaded
+pub mod Given
+pub mod Texts

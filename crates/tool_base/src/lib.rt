@@ -1,0 +1,19 @@
+//! What every command of the program stands on: files loaded by kind, systems over one alphabet,
+//! refusals with their texts, and what a command is.
+#![tactic(auto)]
+
+mod cycles;
+mod load;
+mod raw;
+mod refusal;
+mod report;
+mod sources;
+mod systems;
+mod text;
+
+pub use load::{load_trace, loaded_name};
+pub use refusal::{FileError, Refusal, Stop, words_stop};
+pub use report::Report;
+pub use sources::Sources;
+pub use systems::{OneSystem, TwoSystems, one_system, two_systems};
+pub use text::{one_line, put_number, put_states, refusal_text, usage_text};

@@ -1,0 +1,135 @@
+//! The systems that a command's words name, over one alphabet.
+ghost use Rattle.std.specs.Prelude.{◌≡◌, ◌∷◌, [], map, length, All, IfOk, MatchResult};
+ghost use Rattle.edge_io.specs.Outside.{KeepsFiles};
+ghost use Rattle.lts_base.specs.System.{IsSystem};
+ghost use Rattle.lts_base.specs.Alphabet.{IsAlphabet, IsOver};
+ghost use Rattle.tool_base.specs.Given.{sources_from, names_of, IsHalted, IsSplitOf, IsSettledOf, RefusesSettled};
+ghost use Rattle.tool_base.specs.Sources.{RefusesLabels};
+ghost use Rattle.tool_base.specs.Loaded.{LoadsSystems, LoadsOne, LoadsTwo, IsOneOver, AreTwoOver, one_source, two_sources};
+
+use crate::cycles::settled;
+use crate::raw::{raw_systems, rule};
+use crate::refusal::{Refusal, Stop};
+use crate::sources::Sources;
+use edge_io::Files;
+use lts_base::{Divergence, Labels, Lts, RawLts, Rule, SplitError, SplitSystems, split};
+use std::alloc::Global;
+use torx_words::Sorting;
+
+/// The system of one file, over its alphabet.
+#[derive(Drop)]
+pub struct OneSystem {
+    /// The alphabet.
+    pub labels: Labels,
+    /// The system.
+    pub system: Lts,
+}
+
+/// The systems of two files, over one alphabet.
+#[derive(Drop)]
+pub struct TwoSystems {
+    /// The alphabet.
+    pub labels: Labels,
+    /// The system of the first file.
+    pub first: Lts,
+    /// The system of the second file.
+    pub second: Lts,
+}
+
+/// The system of the file of this name.
+pub fn one_system<F: Files>(
+    alloc: Global,
+    files: &mut F,
+    name: &str,
+    sorting: Sorting<'_>,
+    divergence: Divergence,
+) -> Result<OneSystem, Stop>
+    ensures loaded { LoadsOne (F.told files.old) (F.told files.new) (one_source name.now sorting.entry divergence) result }
+    ensures over { IfOk result IsOneOver }
+    ensures keeps { KeepsFiles (F.told files.old) (F.told files.new) }
+{
+    let sources = Sources {
+        names: &[name],
+        sorting,
+        divergence,
+    };
+    let SplitSystems { labels, systems } = all_systems(alloc, files, &sources)?;
+    let mut systems = systems.into_vec();
+    let Some(system) = systems.pop() else {
+        unreachable!()
+    };
+    Ok(OneSystem { labels, system })
+}
+
+/// The systems of the files of these names.
+pub fn two_systems<F: Files>(
+    alloc: Global,
+    files: &mut F,
+    first: &str,
+    second: &str,
+    sorting: Sorting<'_>,
+    divergence: Divergence,
+) -> Result<TwoSystems, Stop>
+    ensures loaded { LoadsTwo (F.told files.old) (F.told files.new) (two_sources first.now second.now sorting.entry divergence) result }
+    ensures over { IfOk result AreTwoOver }
+    ensures keeps { KeepsFiles (F.told files.old) (F.told files.new) }
+{
+    let sources = Sources {
+        names: &[first, second],
+        sorting,
+        divergence,
+    };
+    let SplitSystems { labels, systems } = all_systems(alloc, files, &sources)?;
+    let mut systems = systems.into_vec();
+    let (Some(second), Some(first)) = (systems.pop(), systems.pop()) else {
+        unreachable!()
+    };
+    Ok(TwoSystems {
+        labels,
+        first,
+        second,
+    })
+}
+
+/// The systems of all these files, in their order.
+fn all_systems<F: Files>(
+    alloc: Global,
+    files: &mut F,
+    sources: &Sources<'_>,
+) -> Result<SplitSystems, Stop>
+    ensures loaded { LoadsSystems (F.told files.old) (F.told files.new) (sources_from sources.now) result }
+    ensures sound { IfOk result (λ s. All IsSystem s.systems) }
+    ensures over { IfOk result (λ s. All (IsOver s.labels) s.systems) }
+    ensures keeps { KeepsFiles (F.told files.old) (F.told files.new) }
+{
+    let raws = raw_systems(alloc, files, sources.names)?;
+    let rule = rule(alloc, files, sources.sorting)?;
+    over_one_alphabet(alloc, sources, raws.as_slice(), &rule)
+}
+
+/// The systems of raw ones over their alphabet, as they are to be read.
+fn over_one_alphabet(
+    alloc: Global,
+    sources: &Sources<'_>,
+    raws: &[RawLts],
+    rule: &Rule,
+) -> Result<SplitSystems, Stop>
+    requires names { length sources.now.names.now ≡ length raws.now }
+    ensures read { MatchResult result (λ s. IsSettledOf rule.now raws.now sources.now.divergence s.labels s.systems) (IsHalted (RefusesSettled rule.now raws.now sources.now.divergence (names_of sources.now.names.now))) }
+    ensures sound { IfOk result (λ s. All IsSystem s.systems) }
+{
+    let SplitSystems { labels, systems } = sorted(alloc, raws, rule)?;
+    let systems = settled(alloc, sources.divergence, sources.names, systems)?;
+    Ok(SplitSystems { labels, systems })
+}
+
+/// The systems of raw ones over their alphabet.
+fn sorted(alloc: Global, raws: &[RawLts], rule: &Rule) -> Result<SplitSystems, Stop>
+    ensures split { MatchResult result (λ s. IsSplitOf rule.now raws.now s.labels s.systems) (IsHalted (RefusesLabels rule.now raws.now)) }
+{
+    match split(alloc, raws, rule) {
+        Ok(systems) => Ok(systems),
+        Err(SplitError::Memory) => Err(Stop::Memory),
+        Err(error) => Err(Stop::Refused(Refusal::BadLabels { error })),
+    }
+}

@@ -1,6 +1,0 @@
-use Rattle.std.proofs.Common.{arith}
-use Rattle.text_scan.proofs.LineLaws.{few_lines}
-use Rattle.torx_tool.proofs.load.trace_in.Goals as goal
-
-pub read_trace-requires : goal.read_trace-requires
-read_trace-requires g c = let short = c.in_ok-content.ensures.short in rw c.as_slice.ensures omega (arith, few_lines c.in_ok-content.content, short)

@@ -1,0 +1,69 @@
+-- Promise: what the program answers and prints, from its words and the contents of its files.
+use Rattle.std.specs.Prelude.{◌≡◌, ℕ, List, [], ◌∷◌, Option, Some, None, Result, Ok, Err, ◌⊎◌}
+use Rattle.edge_io.specs.Outside.{ToldFiles, ToldSink, SinkFails, AppendsTo, AppendsFrontTo}
+use Rattle.torx_words.specs.declared.kind.UsageKind.TheVariants.{NoCommand, UnknownCommand}
+use Rattle.tool_base.specs.declared.refusal.Stop.{Stop}
+use Rattle.tool_base.specs.declared.refusal.Stop.TheVariants.{Usage as BadWords, Refused, Memory as NoRoom}
+use Rattle.tool_base.specs.declared.report.Report.{Report}
+use Rattle.tool_base.specs.Pages.{Command, Answers}
+use Rattle.tool_base.specs.Texts.{usage_text, refusal_text}
+use Rattle.cmd_check.specs.Check.{check_command}
+use Rattle.cmd_outs.specs.Outs.{outs_command}
+use Rattle.cmd_angelic.specs.Angelic.{angelic_command}
+use Rattle.torx_tool.specs.declared.name.Name.{Name}
+use Rattle.torx_tool.specs.declared.name.Name.TheVariants.{Check, Outs, Angelic}
+use Rattle.torx_tool.specs.declared.status.Status.{Status}
+use Rattle.torx_tool.specs.declared.status.Status.TheVariants.{Usage, OutFault, Memory}
+use Rattle.torx_tool.specs.Commands.{named}
+use Rattle.torx_tool.specs.Status.{check_status, outs_status, angelic_status, refusal_status}
+
+-- memory ran out, and nothing is printed
+abbrev pub no_memory : Report Status
+no_memory = record { outcome = Memory; text = [] }
+
+-- what is answered, and printed, where the work stopped
+abbrev pub stop_report : Stop → Report Status
+stop_report (BadWords kind) = record { outcome = Usage kind; text = usage_text kind }
+stop_report (Refused r) = record { outcome = refusal_status r; text = refusal_text r }
+stop_report NoRoom = no_memory
+
+-- the same for what a command answered
+abbrev pub report_of : {O : Type 0} → (O → Status) → Result (Report O) Stop → Report Status
+report_of status (Ok report) = record { outcome = status report.outcome; text = report.text }
+report_of status (Err stop) = stop_report stop
+
+-- the report is this one, or memory ran out
+abbrev pub IsReport : Report Status → Report Status → Type 0
+IsReport told report = (report ≡ told) ⊎ (report ≡ no_memory)
+
+-- the report tells what the command answers to the words after its name
+abbrev pub Reports : {A O : Type 0} → Command A O → (O → Status) → List (List ℕ) → ToldFiles → ToldFiles → Report Status → Type 0
+Reports {O = O} command status words old new report =
+    (result : Result (Report O) Stop) × Answers command words old new result × IsReport (report_of status result) report
+
+abbrev pub ReportsBy : Option Name → List (List ℕ) → ToldFiles → ToldFiles → Report Status → Type 0
+ReportsBy (Some Check) words old new report = Reports check_command check_status words old new report
+ReportsBy (Some Outs) words old new report = Reports outs_command outs_status words old new report
+ReportsBy (Some Angelic) words old new report = Reports angelic_command angelic_status words old new report
+ReportsBy None words old new report = IsReport (stop_report (BadWords UnknownCommand)) report
+
+-- the report on all words
+abbrev pub IsReportOn : List (List ℕ) → ToldFiles → ToldFiles → Report Status → Type 0
+IsReportOn [] old new report = IsReport (stop_report (BadWords NoCommand)) report
+IsReportOn (first ∷ others) old new report = ReportsBy (named first) others old new report
+
+-- the whole text of the report is written, and its answer is given; or the output failed after a front of it
+abbrev pub IsPut : Report Status → ToldSink → ToldSink → Status → Type 0
+IsPut report old new status = ((status ≡ report.outcome) × AppendsTo old new report.text) ⊎
+    ((status ≡ OutFault) × SinkFails old new × AppendsFrontTo old new report.text)
+
+-- nothing is written where memory ran out; else the report is put
+abbrev pub IsWritten : Report Status → ToldSink → ToldSink → Status → Type 0
+IsWritten report old new status = ((report.outcome ≡ Memory) × (status ≡ Memory) × AppendsTo old new []) ⊎
+    (¬ (report.outcome ≡ Memory) × IsPut report old new status)
+
+-- the answer is that of a report on the words, with files that were so before and after the run, and its text is written
+pub record IsRun (words : List (List ℕ)) (old new : ToldFiles) (before after : ToldSink) (status : Status) : Type 0 where
+  pub report : Report Status
+  pub reported : IsReportOn words old new report
+  pub written : IsWritten report before after status

@@ -1,0 +1,59 @@
+-- Promise: the answers of the program, and their exit statuses.
+use Rattle.std.specs.Prelude.{ℕ}
+use Rattle.tool_base.specs.declared.refusal.Refusal.{Refusal}
+use Rattle.tool_base.specs.declared.refusal.Refusal.TheVariants.{TooLong as LongFile, BadFile as FaultyFile, BadLabels as FaultyLabels, Divergent as Diverging, FileFault as UnreadFile}
+use Rattle.cmd_check.specs.declared.outcome.CheckOutcome.{CheckOutcome}
+use Rattle.cmd_check.specs.declared.outcome.CheckOutcome.TheVariants.{Conforms as Conforming, Violates as Violating, Undecided as Cut, NotEnabled as Lacking}
+use Rattle.cmd_outs.specs.declared.outcome.OutsOutcome.{OutsOutcome}
+use Rattle.cmd_outs.specs.declared.outcome.OutsOutcome.TheVariants.{Printed as Offered, Absent as AbsentAt}
+use Rattle.cmd_angelic.specs.declared.outcome.AngelicOutcome.{AngelicOutcome}
+use Rattle.cmd_angelic.specs.declared.outcome.AngelicOutcome.TheVariants.{Printed as Completed, TooManyMoves}
+use Rattle.torx_tool.specs.declared.status.LimitWhat.TheVariants.{Moves}
+use Rattle.torx_tool.specs.declared.status.Status.{Status}
+use Rattle.torx_tool.specs.declared.status.Status.TheVariants.{Conforms, Violates, Undecided, Printed, Absent, Limit, Usage, TooLong, BadFile, BadLabels, Divergent, NotEnabled, FileFault, OutFault, Memory}
+
+-- the exit status of each answer
+abbrev pub code_of : Status → ℕ
+code_of (Conforms pairs) = 0
+code_of (Violates trace shown) = 1
+code_of (Undecided what reached depth) = 2
+code_of Printed = 0
+code_of (Absent place) = 1
+code_of (Limit what reached) = 2
+code_of (Usage kind) = 3
+code_of (TooLong name) = 4
+code_of (BadFile name error) = 4
+code_of (BadLabels error) = 4
+code_of (Divergent name cycle) = 4
+code_of (NotEnabled name state input) = 4
+code_of (FileFault name) = 5
+code_of OutFault = 6
+code_of Memory = 8
+
+abbrev pub check_status : CheckOutcome → Status
+check_status (Conforming pairs) = Conforms pairs
+check_status (Violating trace shown) = Violates trace shown
+check_status (Cut what reached depth) = Undecided what reached depth
+check_status (Lacking name state input) = NotEnabled name state input
+
+abbrev pub outs_status : OutsOutcome → Status
+outs_status Offered = Printed
+outs_status (AbsentAt place) = Absent place
+
+abbrev pub angelic_status : AngelicOutcome → Status
+angelic_status Completed = Printed
+angelic_status (TooManyMoves reached) = Limit Moves reached
+
+abbrev pub refusal_status : Refusal → Status
+refusal_status (LongFile name) = TooLong name
+refusal_status (FaultyFile name error) = BadFile name error
+refusal_status (FaultyLabels error) = BadLabels error
+refusal_status (Diverging name cycle) = Divergent name cycle
+refusal_status (UnreadFile name) = FileFault name
+
+-- memory ran out, the output failed, or a file couldn't be read: the only answers that the contents of the files don't decide
+abbrev pub IsFailure : Status → Type 0
+IsFailure Memory = Unit {0}
+IsFailure OutFault = Unit {0}
+IsFailure (FileFault name) = Unit {0}
+IsFailure other = ⊥

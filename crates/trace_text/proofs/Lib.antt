@@ -1,0 +1,4 @@
+pub mod ItemLaws
+mod ReadLaws
+pub mod OnceLaws
+pub mod PrintLaws

@@ -1,0 +1,4 @@
+pub mod Items
+pub mod Lines
+pub mod Traces
+pub mod Reading
