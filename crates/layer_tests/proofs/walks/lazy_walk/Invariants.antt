@@ -1,7 +1,0 @@
-use Rattle.layer_tests.proofs.walks.lazy_walk.Given as goal
-
-abbrev pub ghosts-serve : goal.ghosts-serve
-ghosts-serve g a = record { name = a.blank.name; parts = a.blank.parts }
-
-abbrev pub ghosts-keep : goal.ghosts-keep
-ghosts-keep g a = record { name = a.blank.name; parts = a.blank.parts }
