@@ -11,6 +11,7 @@ use Rattle.lts_base.specs.Related.{row_of}
 use Rattle.lts_base.specs.Conformance.{IsViolation}
 use Rattle.lts_base.specs.Order.{place, IsAtMost}
 use Rattle.lts_base.specs.Reached.{Row, row_at, trace_at, lefts, rights, distinct, AreFirstPairs, IsReachedBy, IsFine, Limits, IsWithin}
+use Rattle.state_sets.specs.Finds.{IsTakenIn}
 use Rattle.walk_core.specs.Walked.{Walked, set_at, IsWalk, IsStep, IsFull}
 use Rattle.walk_core.specs.Taken.{Took}
 use Rattle.conf_decide.specs.declared.table.Found.{Found}
@@ -80,6 +81,13 @@ pub record IsFirstWrong (i s : System) (row : Row) (x : Item) : Type 0 where
 abbrev pub IsWrongOrFine : Walked → Walked → ℕ → ℕ → Option Item → Type 0
 IsWrongOrFine imp spec left right wrong = MatchOption wrong (IsFine imp.system spec.system (row_of imp.sets spec.sets (left, right)))
     (IsFirstWrong imp.system spec.system (row_of imp.sets spec.sets (left, right)))
+
+-- n is a number from `from` on and at most `most`, and each label from `from` on below it that the left set takes, the right
+-- one takes too
+pub record IsAgreedTo (imp spec : Walked) (left right from most n : ℕ) : Type 0 where
+  pub low : from ≤ n
+  pub high : n ≤ most
+  pub both : (a : ℕ) → from ≤ a → a < n → IsTakenIn imp.system (set_at imp.sets left) a → IsTakenIn spec.system (set_at spec.sets right) a
 
 -- both walks are sound and have the alphabet that was told, and the limit of pairs is one that may be asked for
 pub record IsSetting (setting : Setting) (imp spec : Walked) : Type 0 where

@@ -7,11 +7,12 @@ ghost use Rattle.lts_base.specs.Reached.{IsFine};
 ghost use Rattle.lts_base.specs.Related.{row_of};
 ghost use Rattle.walk_core.specs.Walked.{Walked, IsWalk, Grows};
 ghost use Rattle.conf_decide.specs.Table.{found_at, AreEarlier};
-ghost use Rattle.conf_decide.specs.Progress.{IsFirstWrong, IsSetting, IsRunOf, IsNewest, IsTested, IsOutcome, IsAnswer, IsPace, IsWrongOrFine, TookBoth};
+ghost use Rattle.conf_decide.specs.Progress.{IsFirstWrong, IsSetting, IsRunOf, IsNewest, IsTested, IsOutcome, IsAnswer, IsPace, IsWrongOrFine, IsAgreedTo, TookBoth};
 
 use crate::answer::{Answer, What};
 use crate::table::{Found, Table};
 use lts_base::{Item, Memory, Mode};
+use state_sets::first_missing;
 use std::alloc::Global;
 use std::sync::ledger::Ledger;
 use walk_core::{Node, Steps, Walk, WalkError};
@@ -58,6 +59,31 @@ pub fn item_at(inputs: u32, outputs: u32, number: u32) -> Item
     Item::Delta
 }
 
+/// The number of the next label, from `number` on, that may be at fault: the sets agree on those
+/// that it passes over.
+fn next_label<A: Walk, B: Walk>(
+    imp: &A,
+    spec: &B,
+    setting: Setting,
+    left: u32,
+    right: u32,
+    number: u32,
+) -> u32
+    requires setting { IsSetting setting (A.walked imp.now) (B.walked spec.now) }
+    requires left { left < length (A.walked imp.now).sets }
+    requires right { right < length (B.walked spec.now).sets }
+    requires number { number ≤ setting.inputs + setting.outputs }
+    ensures { IsAgreedTo (A.walked imp.now) (B.walked spec.now) left right number (setting.inputs + setting.outputs) result }
+{
+    let Some(row) = imp.row(Node(left)) else {
+        return imp.label_from(Node(left), number);
+    };
+    let Some(other) = spec.row(Node(right)) else {
+        return imp.label_from(Node(left), number);
+    };
+    first_missing(row, other, number, setting.inputs + setting.outputs)
+}
+
 /// The least item that the left set shows and the right one doesn't.
 fn first_wrong<A: Walk, B: Walk>(
     imp: &A,
@@ -73,7 +99,7 @@ fn first_wrong<A: Walk, B: Walk>(
 {
     let mut number = setting.inputs;
     'items: while number <= setting.inputs + setting.outputs {
-        let next = imp.label_from(Node(left), number);
+        let next = next_label(imp, spec, setting, left, right, number);
         let item = item_at(setting.inputs, setting.outputs, next);
         if imp.shows(Node(left), item) {
             if !spec.shows(Node(right), item) {

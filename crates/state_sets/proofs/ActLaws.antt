@@ -1,9 +1,9 @@
 -- Laws on the moves of a state, which stand in the order of what they carry.
-use Rattle.std.proofs.Common.{◌≡◌, ℕ, ◌+◌, ◌<◌, ◌≤◌, List, length, get_or, Contains, Bool, true, false, nat_lt, refl, ap, inl, inr, ◌⊎◌, arith, IsTrue, ◌↔◌}
+use Rattle.std.proofs.Common.{◌≡◌, ℕ, ◌+◌, ◌-◌, ◌<◌, ◌≤◌, List, length, get_or, drop, Contains, Bool, true, false, nat_lt, refl, sym, ◌∙◌, ap, inl, inr, ◌⊎◌, arith, IsTrue, ◌↔◌}
 use Rattle.std.specs.List.{filter, AllPairs}
 use Rattle.std.specs.List.Sorted.{IsNonDecreasingBy, IsPartitionPoint}
 use Rattle.std.proofs.lemmas.List.Kept.{AllPairs-filter}
-use Rattle.std.proofs.lemmas.List.{get_or_default}
+use Rattle.std.proofs.lemmas.List.{get_or_default, get_or-drop, length-drop}
 use Rattle.std.proofs.lemmas.List.Elements.{filter_passes, Contains-get_or}
 use Rattle.std.proofs.lemmas.Bool.Decides.{nat_tests, Decides-eqb}
 use Rattle.std.proofs.lemmas.Bool.{ltb-true, cases_lt, cases_Bool, iff_false}
@@ -220,3 +220,29 @@ before_more ms act i e inside here before k d below = elim (cases_lt k i) [
       let same : k ≡ i = omega (arith, late, below) in
       rw (same, get_or_default ms i d e inside) here
 ]
+
+-- the moves before one that comes before the action do so too
+pub before_all : (ms : List Move) (act : Act) (i : ℕ) (e : Move) → IsNonDecreasingBy (λ (m : Move). act_place m.act) ms → 0 < i → i ≤ length ms → act_place (get_or ms (i - 1) e).act < act_place act →
+    (k : ℕ) (d : Move) → k < i → act_place (get_or ms k d).act < act_place act
+before_all ms act i e sorted some inside last k d below =
+    let rises : act_place (get_or ms k e).act ≤ act_place (get_or ms (i - 1) e).act = sorted k (i - 1) e (omega (arith, below)) (omega (arith, some, inside)) in
+    let here : get_or ms k e ≡ get_or ms k d = get_or_default ms k e d (omega (arith, below, inside)) in
+    let low : act_place (get_or ms k e).act < act_place act = omega (arith, rises, last) in
+    rw here at low
+
+-- the place in the rest of the moves is one in all of them
+pub point_in_rest : (ms rest : List Move) (act : Act) (n i : ℕ) → rest ≡ drop n ms → ((k : ℕ) (d : Move) → k < n → act_place (get_or ms k d).act < act_place act) →
+    IsPartitionPoint (λ (m : Move). act_place m.act < act_place act) (λ (m : Move). act_place act ≤ act_place m.act) rest i → IsPartitionPoint (λ (m : Move). act_place m.act < act_place act) (λ (m : Move). act_place act ≤ act_place m.act) ms (n + i)
+point_in_rest ms rest act n i is before point = (
+  λ k d low high. elim (cases_lt k n) [
+    | inl less ↦ before k d less
+    | inr over ↦ rw (moved k d over) (point.0 (k - n) d (omega arith) (omega (arith, over, high)))
+  ],
+  λ k d low high.
+      let over : n ≤ k = omega (arith, low) in
+      let left : length rest ≡ length ms - n = ap length is ∙ length-drop n ms in
+      rw (moved k d over) (point.1 (k - n) d (omega (arith, low)) (omega (arith, left, over, high))),
+)
+  where
+    moved : (k : ℕ) (d : Move) → n ≤ k → get_or ms k d ≡ get_or rest (k - n) d
+    moved k d over = let e : k ≡ n + (k - n) = omega (arith, over) in ap (λ j. get_or ms j d) e ∙ sym (get_or-drop n ms (k - n) d) ∙ ap (λ (r : List Move). get_or r (k - n) d) (sym is)

@@ -4,3 +4,6 @@ pub mod ActLaws
 pub mod OfferLaws
 pub mod AfterLaws
 pub mod TauLaws
+pub mod BitLaws
+pub mod RowLaws
+pub mod MaskLaws

@@ -1,2 +1,4 @@
 pub mod Finds
 pub mod Taus
+pub mod Rows
+pub mod Places

@@ -4,6 +4,7 @@ ghost use Rattle.std.specs.List.Sorted.{IsNonDecreasingBy, IsPartitionPoint};
 ghost use Rattle.lts_base.specs.declared.action.Move.{Move as TheMove};
 ghost use Rattle.lts_base.specs.System.{act_place, label_count, Takes};
 ghost use Rattle.state_sets.specs.Finds.{IsLeastFrom, IsTakenIn};
+ghost use Rattle.state_sets.specs.Places.{ComeBefore};
 
 use lts_base::{Act, Lts, Move};
 
@@ -23,23 +24,38 @@ fn is_before(act: Act, other: Act) -> bool
     }
 }
 
-/// As `first_from`, by a look at each move in turn: quicker where there are few.
-fn scan_from(moves: &[Move], act: Act) -> usize
+/// How many moves are looked at in turn before a search by halves.
+const NEAR: usize = 16;
+
+/// The place of the first move with the action or a later one, among moves in that order.
+fn by_halves(moves: &[Move], act: Act) -> usize
     requires { IsNonDecreasingBy (λ (m : TheMove). act_place m.act) moves.now }
     ensures within { result ≤ length moves.now }
     ensures point { IsPartitionPoint (λ (m : TheMove). act_place m.act < act_place act) (λ (m : TheMove). act_place act ≤ act_place m.act) moves.now result }
 {
-    let count = moves.len();
-    'places: for place in 0..count {
-        if !is_before(moves[place].act, act) {
-            return place;
-        }
-    }
-    count
+    moves.partition_point(|m| is_before(m.act, act))
 }
 
-/// The place of the first move with the action or a later one, among moves in that order.
-pub(crate) fn first_from(moves: &[Move], act: Act) -> usize
+/// The place itself, if all moves before it come before the action; else 0.
+fn start_at(moves: &[Move], act: Act, place: usize) -> usize
+    requires { IsNonDecreasingBy (λ (m : TheMove). act_place m.act) moves.now }
+    ensures within { result ≤ length moves.now }
+    ensures before { ComeBefore moves.now act result }
+{
+    if place == 0 {
+        return 0;
+    }
+    if place > moves.len() {
+        return 0;
+    }
+    if is_before(moves[place - 1].act, act) {
+        return place;
+    }
+    0
+}
+
+/// As `by_halves`, with a place where to look first: quick where it is the one, and any will do.
+pub(crate) fn first_from(moves: &[Move], act: Act, hint: usize) -> usize
     requires { IsNonDecreasingBy (λ (m : TheMove). act_place m.act) moves.now }
     ensures within { result ≤ length moves.now }
     ensures point { IsPartitionPoint (λ (m : TheMove). act_place m.act < act_place act) (λ (m : TheMove). act_place act ≤ act_place m.act) moves.now result }
@@ -47,10 +63,14 @@ pub(crate) fn first_from(moves: &[Move], act: Act) -> usize
     if let Act::Tau = act {
         return 0;
     }
-    if moves.len() <= 32 {
-        return scan_from(moves, act);
+    let from = start_at(moves, act, hint);
+    let near = from + NEAR.min(moves.len() - from);
+    'places: for place in from..near {
+        if !is_before(moves[place].act, act) {
+            return place;
+        }
     }
-    moves.partition_point(|m| is_before(m.act, act))
+    near + by_halves(&moves[near..], act)
 }
 
 /// The least label from `from` on with which a move leaves the state, where it is below `most`;
@@ -61,7 +81,7 @@ fn state_label(lts: &Lts, state: u32, from: u32, most: u32) -> u32
     ensures { IsLeastFrom (Takes lts.now state) from most result }
 {
     let moves = lts.moves_of(state);
-    let place = first_from(moves, Act::Label(from));
+    let place = first_from(moves, Act::Label(from), 0);
     if place >= moves.len() {
         return most;
     }

@@ -75,7 +75,7 @@ fn some_is_quiet(lts: &Lts, set: &[u32]) -> bool
 }
 
 /// Whether a move with the label leaves each stable member.
-fn all_stable_take(lts: &Lts, set: &[u32], label: u32) -> bool
+pub(crate) fn all_stable_take(lts: &Lts, set: &[u32], label: u32) -> bool
     requires { All (λ (q : ℕ). q < lts.now.states) set.now }
     ensures { IsTrue result ↔ ((q : ℕ) → Contains set.now q → IsStable lts.now q → Takes lts.now q label) }
 {
@@ -103,7 +103,7 @@ pub(crate) fn has_move(lts: &Lts, state: u32, act: Act) -> bool
     ensures { IsTrue result ↔ ((q : ℕ) × HasMove lts.now state act q) }
 {
     let moves = lts.moves_of(state);
-    let place = first_from(moves, act);
+    let place = first_from(moves, act, 0);
     if place >= moves.len() {
         return false;
     }

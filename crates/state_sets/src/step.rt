@@ -172,10 +172,11 @@ fn spread(lts: &Lts, search: &mut Search, state: u32, act: Act) -> Result<(), Me
     ensures adds { OnOk result (Adds (HasMove lts.now state act) search.old.found search.new.found) }
 {
     let moves = lts.moves_of(state);
-    let from = first_from(moves, act);
+    let from = first_from(moves, act, search.hint(state));
     'moves: for place in from..moves.len() {
         let m = moves[place];
         if !is_same(m.act, act) {
+            search.note(state, place);
             return Ok(());
         }
         search.add(m.to)?;

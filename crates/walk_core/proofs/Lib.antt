@@ -1,2 +1,3 @@
 pub mod WalkLaws
 pub mod EdgeLaws
+pub mod MarkLaws

@@ -5,3 +5,4 @@ pub mod Interned
 pub mod Edges
 pub mod Listed
 pub mod Mapped
+pub mod Marked

@@ -92,6 +92,9 @@ fn in_run(run: &[(u64, Option<Node>)], key: u64) -> Option<Option<Node>>
 fn in_rest(rest: &IndexMap<u64, Option<Node>>, key: u64) -> Option<Option<Node>>
     ensures { result ≡ lookup (eqb key) rest.now.entries }
 {
+    if rest.len() == 0 {
+        return None;
+    }
     let to = rest.get(&key)?;
     Some(*to)
 }

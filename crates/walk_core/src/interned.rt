@@ -7,18 +7,20 @@ ghost use Rattle.lts_base.specs.After.{IsSetAfter, Shows, Allows};
 ghost use Rattle.lts_base.specs.Next.{IsNext};
 ghost use Rattle.lts_base.specs.Reached.{total_members, with_new};
 ghost use Rattle.state_sets.specs.Finds.{IsLeastFrom, IsTakenIn};
+ghost use Rattle.state_sets.specs.Rows.{IsRowOf};
 ghost use Rattle.walk_core.specs.Interned.{IsNextOf, with_alone};
 ghost use Rattle.walk_core.specs.Walked.{IsFresh, IsSetOf, IsWalk, Grows, IsStep, set_at};
 ghost use Rattle.walk_core.specs.Refused.{Refuses, RefusesOpening, RefusesSet, KeepsAccount};
 
 use crate::keyed::Keyed;
+use crate::marks::Marks;
 use crate::node::Node;
 use crate::walk::WalkError;
 use indexmap::IndexSet;
 use lts_base::{Item, Lts, Memory, Mode};
 use state_sets::{
     Search, StateSet, Taus, allowed_by, find_next, found_set, label_from, only_state, opening_with,
-    shown_by,
+    row_allows, row_label_from, row_shows, shown_by,
 };
 use std::alloc::Global;
 use std::marker::Model;
@@ -38,6 +40,7 @@ pub(crate) struct Interned<'a> {
     taus: Taus,
     // for each state one above the number of the set that has it alone; 0 where none is known
     alone: Vec<u32>,
+    marks: Marks,
 }
 
 /// What a step leads to.
@@ -52,12 +55,13 @@ enum Next {
 impl<'a> Model for Interned<'a> {
     ghost use Rattle.walk_core.specs.Walked.{Walked};
     ghost use Rattle.walk_core.specs.Interned.{IsInterned};
+    ghost use Rattle.walk_core.specs.Marked.{AreMarksOf};
 
     ghost Value = { Walked };
 
     ghost view = { λ a. record { system = a.lts.now; limit = a.most; sets = a.sets.keys } };
 
-    ghost invariant = { λ a. IsInterned (record { system = a.lts.now; limit = a.most; sets = a.sets.keys }) a.members a.search.states a.alone.items a.taus };
+    ghost invariant = { λ a. IsInterned (record { system = a.lts.now; limit = a.most; sets = a.sets.keys }) a.members a.search.states a.alone.items a.taus × AreMarksOf a.lts.now a.sets.keys a.marks };
 }
 
 impl<'a> Interned<'a> {
@@ -77,6 +81,8 @@ impl<'a> Interned<'a> {
         if members > most {
             return Err(WalkError::Full { reached: members });
         }
+        let mut marks = Marks::new(alloc, lts)?;
+        marks.keep(lts, set.states(), 0);
         let mut sets = IndexSet::with_hasher(alloc, Keyed::new(lts));
         add(&mut sets, set)?;
         let Ok(alone) = vec![in alloc; 0; count as usize] else {
@@ -91,6 +97,7 @@ impl<'a> Interned<'a> {
             search,
             taus,
             alone,
+            marks,
         })
     }
 
@@ -146,6 +153,8 @@ impl<'a> Interned<'a> {
         }
         self.members = reached;
         note(&mut self.alone, only, place as u32);
+        let kept = &self.sets.as_slice()[place];
+        self.marks.keep(self.lts, kept.states(), place);
         Ok(place as u32)
     }
 
@@ -187,6 +196,9 @@ impl<'a> Interned<'a> {
         requires item { IsItemOf self.now.system item }
         ensures { IsTrue result ↔ Allows mode self.now.system (set_at self.now.sets node.0) item }
     {
+        if let Some(row) = self.marks.row(node.0 as usize) {
+            return row_allows(self.lts, mode, self.states(node), row, item);
+        }
         allowed_by(self.lts, mode, self.states(node), item)
     }
 
@@ -196,6 +208,9 @@ impl<'a> Interned<'a> {
         requires item { IsItemOf self.now.system item }
         ensures { IsTrue result ↔ Shows self.now.system (set_at self.now.sets node.0) item }
     {
+        if let Some(row) = self.marks.row(node.0 as usize) {
+            return row_shows(self.lts, row, item);
+        }
         shown_by(self.lts, self.states(node), item)
     }
 
@@ -206,7 +221,19 @@ impl<'a> Interned<'a> {
         requires from { from ≤ label_count self.now.system }
         ensures { IsLeastFrom (IsTakenIn self.now.system (set_at self.now.sets node.0)) from (label_count self.now.system) result }
     {
+        if let Some(row) = self.marks.row(node.0 as usize) {
+            return row_label_from(self.lts, row, from);
+        }
         label_from(self.lts, self.states(node), from)
+    }
+
+    /// What the node's set has, as a row of bits, where it is kept.
+    pub(crate) fn row(&self, node: Node) -> Option<&[u64]>
+        requires { node.0 < length self.now.sets }
+        ensures { IfSome result (λ r. IsRowOf self.now.system (set_at self.now.sets node.0) r.now) }
+    {
+        let row = self.marks.row(node.0 as usize)?;
+        Some(row)
     }
 
     /// The states of the node's set, in ascending order.

@@ -171,6 +171,10 @@ impl<'a> Walk for LazyWalk<'a> {
         self.graph.sets.label_from(node, from)
     }
 
+    fn row(&self, node: Node) -> Option<&[u64]> {
+        self.graph.sets.row(node)
+    }
+
     fn states(&self, node: Node) -> &[u32] {
         self.graph.sets.states(node)
     }

@@ -5,6 +5,7 @@ pub mod edges;
 mod interned;
 mod keyed;
 pub mod lazy;
+mod marks;
 pub mod node;
 pub mod plain;
 pub mod steps;

@@ -78,6 +78,10 @@ impl<'a> Walk for PlainWalk<'a> {
         self.sets.label_from(node, from)
     }
 
+    fn row(&self, node: Node) -> Option<&[u64]> {
+        self.sets.row(node)
+    }
+
     fn states(&self, node: Node) -> &[u32] {
         self.sets.states(node)
     }

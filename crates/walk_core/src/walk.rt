@@ -1,10 +1,11 @@
 //! The trait of all walks: what each call answers, and what it does to the list of sets.
-ghost use Rattle.std.specs.Prelude.{◌≡◌, ℕ, ◌+◌, ◌<◌, ◌≤◌, ◌↔◌, [], length, IsTrue, IfOk, IfErr, OnErr};
+ghost use Rattle.std.specs.Prelude.{◌≡◌, ℕ, ◌+◌, ◌<◌, ◌≤◌, ◌↔◌, [], length, IsTrue, IfOk, IfErr, IfSome, OnErr};
 ghost use Rattle.std.specs.Option.{option_map};
 ghost use Rattle.lts_base.specs.System.{IsItemOf, label_count};
 ghost use Rattle.lts_base.specs.After.{IsSetAfter, Shows, Allows};
 ghost use Rattle.lts_base.specs.Reached.{total_members};
 ghost use Rattle.state_sets.specs.Finds.{IsLeastFrom, IsTakenIn};
+ghost use Rattle.state_sets.specs.Rows.{IsRowOf};
 ghost use Rattle.walk_core.specs.Walked.{Walked, set_at, IsWalk, Grows, IsStep, LeadsTo};
 ghost use Rattle.walk_core.specs.Taken.{Took};
 ghost use Rattle.walk_core.specs.Refused.{Refuses, KeepsAccount};
@@ -92,6 +93,16 @@ pub trait Walk {
         requires from { from ≤ label_count (walked self.now).system }
         requires walk { IsWalk (walked self.now) }
         ensures { IsLeastFrom (IsTakenIn (walked self.now).system (set_at (walked self.now).sets node.0)) from (label_count (walked self.now).system) result };
+
+    /// What the node's set has, as a row of bits, where the walk keeps it: one bit for each label,
+    /// and after them one for quiet.
+    fn row(&self, node: Node) -> Option<&[u64]>
+        requires node { node.0 < length (walked self.now).sets }
+        requires walk { IsWalk (walked self.now) }
+        ensures { IfSome result (λ r. IsRowOf (walked self.now).system (set_at (walked self.now).sets node.0) r.now) }
+    {
+        None
+    }
 
     /// The states of the node's set, in ascending order.
     fn states(&self, node: Node) -> &[u32]

@@ -16,10 +16,11 @@ moves-init c = record {
 
 pub returns-then-not-is_same-clause-adds : goal.returns-then-not-is_same-clause-adds
 returns-then-not-is_same-clause-adds c =
-    IsSpreading-all c.args.lts.now _ _ _ _ _ _ c.moves_of-moves.ensures.these (omega arith)
+    rw c.note.ensures
+    (IsSpreading-all c.args.lts.now _ _ _ _ _ _ c.moves_of-moves.ensures.these (omega arith)
     (IsSpreading-rest _ _ _ _ _ _
     (none_after _ _ _ _ _ (by_act c.args.lts.now _ _ c.moves_of-moves.ensures.value c.moves_of-moves.ensures.system.sorted)
-    c.first_from-from.ensures.point c.moves.auto.place c.moves-test.true (iff_false c.is_same.ensures c.if-not-is_same.true)) c.moves.invariant.spreading)
+    c.first_from-from.ensures.point c.moves.auto.place c.moves-test.true (iff_false c.is_same.ensures c.if-not-is_same.true)) c.moves.invariant.spreading))
 
 pub moves-preserved : goal.moves-preserved
 moves-preserved c = record {

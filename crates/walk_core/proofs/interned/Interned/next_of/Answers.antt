@@ -12,8 +12,8 @@ returns-then-known-gt0-clause-next c =
     let low_node : c.args.node.0 < length c.self.inside.sets.keys = rw (← c.self.view_is) at c.requires.node in
     let here : c.index-as_slice-node.result ≡ get_or c.self.inside.sets.keys c.args.node.0 [] = get_or_read _ _ _ low_node (rw c.as_slice.ensures.keys at c.index-as_slice-node.is) [] in
     let are : AreNext c.args.self.now.system c.args.item (set_at c.args.self.now.sets c.args.node.0) c.find_next.new.search.found = rw (← c.self.view_is) (rw (c.states.ensures.value, here) at c.in_ok-find_next.ensures.found) in
-    let single : AreAlone c.args.self.now.system.states c.args.self.now.sets c.self.inside.alone.items = rw (← c.self.view_is) c.self.invariant.single in
-    let low : c.at.result < length c.self.inside.alone.items = omega (arith, c.at.ensures.within, c.in_ok-find_next.ensures.states, c.self.invariant.states, c.self.invariant.single.long) in
+    let single : AreAlone c.args.self.now.system.states c.args.self.now.sets c.self.inside.alone.items = rw (← c.self.view_is) c.self.invariant.0.single in
+    let low : c.at.result < length c.self.inside.alone.items = omega (arith, c.at.ensures.within, c.in_ok-find_next.ensures.states, c.self.invariant.0.states, c.self.invariant.0.single.long) in
     known_next c.args.self.now _ _ c.self.inside.alone.items _ c.at.result _ single are (sym c.len.ensures.value ∙ c.if-len-eq1.true) c.at.ensures.value (get_or_read _ _ _ low c.index-known.ensures 0) c.if-known-gt0.true
 
 pub returns-clause-next : goal.returns-clause-next
