@@ -138,7 +138,7 @@ move_meets r q raw other says k below =
     ap (λ p. F p (label_of r k) (raw_move_at r.moves k).to) from ∙ ap (λ l. F (raw_move_at q.moves k).from l (raw_move_at r.moves k).to) label ∙ ap (F (raw_move_at q.moves k).from (label_of q k)) to
 
 -- raw systems that say the same are equal, since labels are numbered in the order of their first use
-raw_same : (r q : RawSystem) → IsRaw r → IsRaw q → SaysSame r q → r ≡ q
+pub raw_same : (r q : RawSystem) → IsRaw r → IsRaw q → SaysSame r q → r ≡ q
 raw_same r q raw other says =
     let G : ℕ → ℕ → List (List ℕ) → List RawMove → RawSystem = λ n p ls ms. record { states = n; start = p; labels = ls; moves = ms } in
     let moves : r.moves ≡ q.moves = ext_get_or (record { from = 0; label = None; to = 0 }) r.moves q.moves (same_long r q says) (λ k below. move_meets r q raw other says k below) in

@@ -89,3 +89,7 @@ pub record SplitsInto (rule : Rule) (r : RawSystem) (a : Alphabet) (s : System) 
 -- moves mean nothing
 abbrev pub SplitsBy : Rule → Alphabet → System → List ℕ → Type 0
 SplitsBy rule a s text = (r : RawSystem) → IsAut text r → IsRaw r → SplitsInto rule r a (refused s)
+
+-- where the system fits a file and uses all labels, so does each rule that sorts the labels
+abbrev pub SplitsAgain : Alphabet → System → List ℕ → Type 0
+SplitsAgain a s text = FitsFile s → UsesAll a s → (rule : Rule) → IsSortedBy rule a → SplitsBy rule a s text

@@ -11,5 +11,6 @@ mod printer;
 mod reader;
 
 pub use error::AutError;
+pub use parts::RawParts;
 pub use printer::print;
 pub use reader::AutReader;

@@ -3,7 +3,7 @@ ghost use Rattle.std.specs.Prelude.{◌≡◌, ◌++◌, ◌<◌, length, IfOk, 
 ghost use Rattle.lts_base.specs.System.{IsActOf, refused};
 ghost use Rattle.lts_base.specs.Alphabet.{IsOver};
 ghost use Rattle.aut_text.specs.Grammar.{IsAut};
-ghost use Rattle.aut_text.specs.Printed.{AreWritable, FitsFile, Says, UsesAll, IsSortedBy, SplitsBy};
+ghost use Rattle.aut_text.specs.Printed.{AreWritable, FitsFile, Says, SplitsAgain};
 ghost use Rattle.aut_text.specs.Printed as text_of;
 
 use lts_base::{Act, Labels, Lts, Memory, Move, Text};
@@ -17,7 +17,7 @@ pub fn print(alloc: Global, lts: &Lts, labels: &Labels) -> Result<Text, Memory>
     requires { IsOver labels.now lts.now }
     ensures text { IfOk result (λ text. text ≡ text_of.printed labels.now lts.now) }
     ensures again { AreWritable labels.now.texts → FitsFile lts.now → (r : _) → Says labels.now lts.now r → IfOk result (λ text. IsAut text r) }
-    ensures splits { FitsFile lts.now → UsesAll labels.now lts.now → (rule : _) → IsSortedBy rule labels.now → IfOk result (SplitsBy rule labels.now lts.now) }
+    ensures splits { IfOk result (SplitsAgain labels.now lts.now) }
 {
     // the call tells that the inputs are among the labels
     let _ = labels.count();

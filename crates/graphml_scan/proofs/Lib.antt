@@ -1,0 +1,5 @@
+pub mod ManyLaws
+pub mod PieceLaws
+pub mod LengthLaws
+pub mod ReferenceLaws
+pub mod TagLaws

@@ -1,0 +1,12 @@
+use Rattle.std.proofs.Common.{◌≡◌, length}
+use Rattle.graphml_scan.specs.Many.{many}
+use Rattle.graphml_scan.specs.Tag.{attribute_at}
+use Rattle.graphml_scan.specs.AttributeValues.{attributes_of}
+use Rattle.graphml_scan.proofs.TagLaws.{after_front}
+use Rattle.graphml_scan.proofs.attributes.many_at.Given as goal
+
+abbrev pub invariant-loop-attributes : goal.invariant-loop-attributes
+invariant-loop-attributes l = after_front (attributes_of l.attributes.items) (many attribute_at l.rest) ≡ many attribute_at l.bytes
+
+abbrev pub decreases-loop-attributes : goal.decreases-loop-attributes
+decreases-loop-attributes l = length l.rest

@@ -1,0 +1,11 @@
+pub mod Many
+pub mod Piece
+pub mod Reference
+pub mod Tag
+pub mod Token
+pub mod Values
+pub mod AttributeValues
+pub mod TagValues
+pub mod MarkupValues
+pub mod Pushed
+pub mod Names

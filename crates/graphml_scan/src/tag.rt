@@ -1,0 +1,19 @@
+//! Start tags.
+ghost use Rattle.std.specs.Prelude.{◌≡◌};
+ghost use Rattle.graphml_scan.specs.Piece.{local_name};
+
+use crate::attributes::Attributes;
+
+/// A start tag.
+#[derive(Drop)]
+pub struct Tag<'a> {
+    /// The name as it is written.
+    pub name: &'a [u8],
+    /// What follows the name's first colon, or the whole name.
+    pub local: &'a [u8],
+    /// The attributes, no two of one name.
+    pub attributes: Attributes<'a>,
+    /// Whether the element ends with this tag.
+    pub whole: bool,
+    ghost is_local: { local.now ≡ local_name name.now },
+}

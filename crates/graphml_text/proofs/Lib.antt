@@ -1,0 +1,9 @@
+pub mod RunLaws
+pub mod ReadOnce
+pub mod StackLaws
+pub mod TokenLaws
+pub mod KeptLaws
+pub mod NodeLaws
+pub mod EndsLaws
+pub mod DocumentLaws
+pub mod LabelLaws

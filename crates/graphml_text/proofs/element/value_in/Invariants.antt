@@ -1,0 +1,7 @@
+use Rattle.std.proofs.Common.{◌≡◌, drop}
+use Rattle.graphml_text.specs.Element.{value_in}
+use Rattle.graphml_scan.specs.AttributeValues.{attributes_of}
+use Rattle.graphml_text.proofs.element.value_in.Given as goal
+
+abbrev pub invariant-loop-attribute : goal.invariant-loop-attribute
+invariant-loop-attribute l = value_in l.name (attributes_of (drop l.attribute-index l.attributes)) ≡ value_in l.name (attributes_of l.attributes)

@@ -1,0 +1,11 @@
+use Rattle.graphml_text.proofs.ReadOnce.{file_of, file_only, refuses_only}
+use Rattle.graphml_text.proofs.reader.read_graphml.Goals as goal
+
+pub returns-clause-read : goal.returns-clause-read
+returns-clause-read c = file_of _ _ c.read_content.ensures.read c.read_content.ensures.sound
+
+pub returns-clause-only : goal.returns-clause-only
+returns-clause-only c r file = file_only _ r _ (returns-clause-read c) file
+
+pub returns-clause-fault : goal.returns-clause-fault
+returns-clause-fault c e why other = refuses_only _ e _ (returns-clause-read c) why other
