@@ -1,0 +1,4 @@
+pub mod Printed
+pub mod Logs
+pub mod Faults
+pub mod Adding
