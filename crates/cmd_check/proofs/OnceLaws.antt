@@ -7,7 +7,7 @@ use Rattle.conf_decide.specs.declared.answer.Answer.{Answer}
 use Rattle.conf_decide.specs.declared.answer.Answer.TheVariants.{Conforms as Related, Violates as Broken, Undecided as Cut}
 use Rattle.conf_decide.proofs.OnceLaws.{told, decided_once}
 use Rattle.tool_base.specs.Contents.{Contents, AreTold}
-use Rattle.tool_base.specs.Sources.{AreSystems}
+use Rattle.tool_base.specs.Sources.{AreSystems, all_names}
 use Rattle.tool_base.specs.Once.{IsOnce}
 use Rattle.tool_base.proofs.InputOnce.{systems_once, sources_apart, sources_refused_once}
 use Rattle.tool_base.proofs.StoppedLaws.{systems_over, systems_sound}
@@ -52,13 +52,13 @@ told_is (Broken trace shown) = refl
 told_is (Cut what reached depth) = refl
 
 -- two systems have one verdict
-verdict_once : (asked : AskedCheck) (s i : System) (o p : CheckOutcome) → IsSystem s → IsSystem i → label_count i ≡ label_count s → IsVerdict asked s i o → IsVerdict asked s i p → o ≡ p
-verdict_once asked s i o p spec imp same (inl one) (inl other) = lacking_once asked i o p one other
-verdict_once asked s i o p spec imp same (inl one) (inr other) = absurd (lacking_unable asked i o one other.0)
-verdict_once asked s i o p spec imp same (inr one) (inl other) = absurd (lacking_unable asked i p other one.0)
-verdict_once asked s i o p spec imp same (inr (able, (a, decided, is))) (inr (able_too, (b, decided_too, is_too))) =
-    let once = decided_once Conforms Violates Undecided asked.mode (limits_asked asked) i s a b spec imp same decided decided_too in
-    is ∙ (sym (told_is a) ∙ (once ∙ (told_is b ∙ sym is_too)))
+verdict_once : (asked : AskedCheck) (a : Alphabet) (s i : System) (o p : CheckOutcome) (t u : List ℕ) → IsSystem s → IsSystem i → label_count i ≡ label_count s → IsVerdict asked a s i o t → IsVerdict asked a s i p u → o ≡ p
+verdict_once asked a s i o p t u spec imp same (inl one) (inl other) = lacking_once asked i o p one.0 other.0
+verdict_once asked a s i o p t u spec imp same (inl one) (inr other) = absurd (lacking_unable asked i o one.0 other.0)
+verdict_once asked a s i o p t u spec imp same (inr one) (inl other) = absurd (lacking_unable asked i p other.0 one.0)
+verdict_once asked a s i o p t u spec imp same (inr (able, (x, decided, is, text))) (inr (able_too, (y, decided_too, is_too, text_too))) =
+    let once = decided_once Conforms Violates Undecided asked.mode (limits_asked asked) i s x y spec imp same decided decided_too in
+    is ∙ (sym (told_is x) ∙ (once ∙ (told_is y ∙ sym is_too)))
 
 -- the systems of the files are sound, and have as many labels
 pub sound_pair : (contents : Contents) (asked : AskedCheck) (a : Alphabet) (s i : System) → AreSystems contents (check_sources asked) a (s ∷ i ∷ []) → IsSystem s × IsSystem i × (label_count i ≡ label_count s)
@@ -75,6 +75,15 @@ same_first s i t j e = cc
 same_second : (s i t j : System) → s ∷ i ∷ [] ≡ t ∷ j ∷ [] → i ≡ j
 same_second s i t j e = cc
 
+-- the verdict is one on the systems of the files, whichever they are
+pub verdict_moved : (contents : Contents) (asked : AskedCheck) (o : CheckOutcome) (t : List ℕ) (a : Alphabet) (s i : System) → AreTold contents (all_names (check_sources asked)) → AnswersCheck contents asked o t →
+    AreSystems contents (check_sources asked) a (s ∷ i ∷ []) → IsVerdict asked a s i o t
+verdict_moved contents asked o t a s i told one systems =
+    let same = systems_once contents (check_sources asked) a one.a (s ∷ i ∷ []) (one.s ∷ one.i ∷ []) told systems one.systems in
+    let first : IsVerdict asked a one.s one.i o t = subst (λ (b : Alphabet). IsVerdict asked b one.s one.i o t) same.0 one.verdict in
+    let second : IsVerdict asked a s one.i o t = subst (λ (z : System). IsVerdict asked a z one.i o t) (same_first one.s one.i s i same.1) first in
+    subst (λ (z : System). IsVerdict asked a s z o t) (same_second one.s one.i s i same.1) second
+
 pub check_once : (contents : Contents) (asked : AskedCheck) → AreTold contents (check_page contents asked).names → IsOnce (check_page contents asked)
 check_once contents asked told = record {
   refused = λ r q one other. sources_refused_once contents (check_sources asked) r q told one other;
@@ -84,8 +93,5 @@ check_once contents asked told = record {
   where
     answered : (o p : CheckOutcome) (t u : List ℕ) → AnswersCheck contents asked o t → AnswersCheck contents asked p u → o ≡ p
     answered o p t u one two =
-        let same = systems_once contents (check_sources asked) two.a one.a (two.s ∷ two.i ∷ []) (one.s ∷ one.i ∷ []) told two.systems one.systems in
-        let first : IsVerdict asked two.s one.i o = subst (λ (z : System). IsVerdict asked z one.i o) (same_first one.s one.i two.s two.i same.1) one.verdict in
-        let second : IsVerdict asked two.s two.i o = subst (λ (z : System). IsVerdict asked two.s z o) (same_second one.s one.i two.s two.i same.1) first in
         let sound = sound_pair contents asked two.a two.s two.i two.systems in
-        verdict_once asked two.s two.i o p sound.0 sound.1 sound.2 second two.verdict
+        verdict_once asked two.a two.s two.i o p t u sound.0 sound.1 sound.2 (verdict_moved contents asked o t two.a two.s two.i told one two.systems) two.verdict

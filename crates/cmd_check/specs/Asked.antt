@@ -13,12 +13,14 @@ use Rattle.tool_base.specs.Sources.{Sources}
 use Rattle.cmd_check.specs.declared.words.Check.{Check}
 
 -- the sorting of labels, how divergent systems are read, the conformance relation, whether the implementation has to be
--- input-enabled, the most pairs, the most members of the sets of each side, and the names of the two files
+-- input-enabled, whether a certificate is to be printed, the most pairs, the most members of the sets of each side, and the
+-- names of the two files
 pub record AskedCheck : Type 0 where
   pub sorting : AskedSorting
   pub divergence : Divergence
   pub mode : Mode
   pub enabled : Bool
+  pub cert : Bool
   pub pairs : ℕ
   pub members : ℕ
   pub spec : List ℕ
@@ -29,8 +31,8 @@ abbrev pub check_shape : Shape
 check_shape = record {
   options = record { name = codes "marks"; kind = Marks } ∷ record { name = codes "inputs"; kind = Name } ∷
       record { name = codes "divergence"; kind = HowDivergent } ∷ record { name = codes "uioco"; kind = Flag } ∷
-      record { name = codes "enabled"; kind = Flag } ∷ record { name = codes "pairs"; kind = Number 1 MOST_PAIRS } ∷
-      record { name = codes "members"; kind = Number 1 MOST_MEMBERS } ∷ [];
+      record { name = codes "enabled"; kind = Flag } ∷ record { name = codes "cert"; kind = Flag } ∷
+      record { name = codes "pairs"; kind = Number 1 MOST_PAIRS } ∷ record { name = codes "members"; kind = Number 1 MOST_MEMBERS } ∷ [];
   required = [];
   clashes = [];
   least = 2;
@@ -44,6 +46,7 @@ check_of r = record {
   divergence = divergence_of r;
   mode = mode_of r;
   enabled = stands (codes "enabled") r;
+  cert = stands (codes "cert") r;
   pairs = number_of (codes "pairs") USUAL_PAIRS r;
   members = number_of (codes "members") USUAL_MEMBERS r;
   spec = file_at 0 r;
@@ -57,6 +60,7 @@ check_from c = record {
   divergence = c.divergence;
   mode = c.mode;
   enabled = c.enabled;
+  cert = c.cert;
   pairs = c.pairs;
   members = c.members;
   spec = c.spec.now;

@@ -1,5 +1,6 @@
 -- Promise: what `check` answers, and when.
-use Rattle.std.specs.Prelude.{◌≡◌, true, ℕ, List, [], ◌∷◌, ◌++◌, codes, decimal, length, ◌⊎◌}
+use Rattle.std.specs.Prelude.{◌≡◌, true, ℕ, List, [], ◌∷◌, ◌++◌, codes, decimal, length, ◌⊎◌, if◌then◌else◌}
+use Rattle.lts_base.specs.declared.item.Mode.{Mode}
 use Rattle.lts_base.specs.Alphabet.{Alphabet, text_at}
 use Rattle.lts_base.specs.Shape.{IsInputEnabled}
 use Rattle.lts_base.specs.System.{System}
@@ -9,6 +10,8 @@ use Rattle.conf_decide.specs.declared.answer.Answer.TheVariants.{Conforms as Rel
 use Rattle.conf_decide.specs.declared.answer.What.{What}
 use Rattle.conf_decide.specs.declared.answer.What.TheVariants.{Pairs, ImpMembers, SpecMembers}
 use Rattle.conf_decide.specs.Decided.{IsDecided}
+use Rattle.cert_text.specs.declared.cert.CertBody.TheVariants.{Related as InRelation, Shown}
+use Rattle.cert_text.specs.Printed.{printed}
 use Rattle.trace_text.specs.Items.{item_text}
 use Rattle.trace_text.specs.Lines.{line, items_text}
 use Rattle.tool_base.specs.Contents.{Contents}
@@ -38,6 +41,16 @@ check_text texts (Undecided what reached depth) = what_text what ++ (decimal rea
 check_text texts (NotEnabled name state input) =
     codes "not-enabled " ++ (name ++ (codes " state=" ++ (decimal state ++ line (codes " input=") (text_at texts input))))
 
+-- the text of a certificate for the answer; a decision that is cut has none, and its usual text
+abbrev pub cert_text : Mode → List (List ℕ) → Answer → List ℕ
+cert_text mode texts (Related relation) = printed texts (record { mode = mode; body = InRelation relation })
+cert_text mode texts (Broken trace shown) = printed texts (record { mode = mode; body = Shown trace shown })
+cert_text mode texts (Cut what reached depth) = check_text texts (Undecided what reached depth)
+
+-- the text of the answer: its certificate, if that is asked for, or the usual text
+abbrev pub answer_text : AskedCheck → List (List ℕ) → Answer → List ℕ
+answer_text asked texts answer = if asked.cert then cert_text asked.mode texts answer else check_text texts (outcome_of answer)
+
 -- the implementation has to be input-enabled, and isn't: of its states that end some trace this is the least one that lacks an
 -- input, and the least such input
 abbrev pub IsLacking : AskedCheck → System → CheckOutcome → Type 0
@@ -48,10 +61,12 @@ IsLacking asked i other = ⊥
 abbrev pub IsAble : AskedCheck → System → Type 0
 IsAble asked i = asked.enabled ≡ true → IsInputEnabled i
 
--- the answer for the specification s and the implementation i: an input that is lacking, or else the right decision
-abbrev pub IsVerdict : AskedCheck → System → System → CheckOutcome → Type 0
-IsVerdict asked s i outcome = IsLacking asked i outcome ⊎
-    (IsAble asked i × ((answer : Answer) × IsDecided asked.mode (limits_asked asked) i s answer × (outcome ≡ outcome_of answer)))
+-- the answer for the specification s and the implementation i over the alphabet a, with its text: an input that is lacking, or else
+-- the right decision
+abbrev pub IsVerdict : AskedCheck → Alphabet → System → System → CheckOutcome → List ℕ → Type 0
+IsVerdict asked a s i outcome text = (IsLacking asked i outcome × (text ≡ check_text a.texts outcome)) ⊎
+    (IsAble asked i × ((answer : Answer) × IsDecided asked.mode (limits_asked asked) i s answer × (outcome ≡ outcome_of answer) ×
+    (text ≡ answer_text asked a.texts answer)))
 
 -- the answer and its text for the files
 pub record AnswersCheck (contents : Contents) (asked : AskedCheck) (outcome : CheckOutcome) (text : List ℕ) : Type 0 where
@@ -59,8 +74,7 @@ pub record AnswersCheck (contents : Contents) (asked : AskedCheck) (outcome : Ch
   pub s : System
   pub i : System
   pub systems : AreSystems contents (check_sources asked) a (s ∷ i ∷ [])
-  pub verdict : IsVerdict asked s i outcome
-  pub told : text ≡ check_text a.texts outcome
+  pub verdict : IsVerdict asked a s i outcome text
 
 abbrev pub check_page : Contents → AskedCheck → Page CheckOutcome
 check_page contents asked = record {

@@ -3,20 +3,30 @@ ghost use Rattle.std.specs.Prelude.{◌≡◌, ◌<◌, ◌≤◌, IfOk};
 ghost use Rattle.lts_base.specs.declared.limits.TheConstants.{MOST_PAIRS, MOST_MEMBERS};
 ghost use Rattle.lts_base.specs.System.{IsSystem};
 ghost use Rattle.walk_core.specs.Walked.{IsFresh};
-ghost use Rattle.conf_decide.specs.Decided.{IsSettled, HasAlphabet, limits_of as limits_between};
-ghost use Rattle.cmd_check.specs.Asked.{check_from, limits_asked};
+ghost use Rattle.conf_decide.specs.Decided.{HasAlphabet};
+ghost use Rattle.cmd_check.specs.Asked.{check_from};
+ghost use Rattle.cmd_check.specs.Printable.{IsFound, IsFoundBy};
 
 use crate::words::Check;
-use conf_decide::decide::settle;
-use conf_decide::{Verdict, What};
+use conf_decide::decide::{decide, settle};
+use conf_decide::{Answer, Verdict, What};
 use lts_base::{Lts, Memory};
 use std::alloc::Global;
 use std::marker::Brand;
 use std::sync::ledger::{Blank, Ledger};
 use walk_core::{LazyWalk, Steps, WalkError};
 
+/// What a decision found.
+#[derive(Drop, Debug)]
+pub enum Found {
+    /// The whole answer.
+    Whole(Answer),
+    /// What is told of the answer, of which no certificate is printed.
+    Told(Verdict),
+}
+
 /// Decides whether `imp` conforms to `spec`.
-pub fn decision(alloc: Global, asked: &Check<'_>, spec: &Lts, imp: &Lts) -> Result<Verdict, Memory>
+pub fn decision(alloc: Global, asked: &Check<'_>, spec: &Lts, imp: &Lts) -> Result<Found, Memory>
     requires some { 0 < asked.now.pairs }
     requires pairs { asked.now.pairs ≤ MOST_PAIRS }
     requires members { asked.now.members ≤ MOST_MEMBERS }
@@ -24,7 +34,7 @@ pub fn decision(alloc: Global, asked: &Check<'_>, spec: &Lts, imp: &Lts) -> Resu
     requires outputs { spec.now.outputs ≡ imp.now.outputs }
     requires spec { IsSystem spec.now }
     requires imp { IsSystem imp.now }
-    ensures { IfOk result (IsSettled asked.now.mode (limits_asked (check_from asked.now)) imp.now spec.now) }
+    ensures { IfOk result (IsFound (check_from asked.now) imp.now spec.now) }
 {
     match LazyWalk::new(alloc, imp, asked.members) {
         Ok(mut left) => against(alloc, asked, spec, imp, &mut left),
@@ -40,7 +50,7 @@ fn against(
     spec: &Lts,
     imp: &Lts,
     left: &mut LazyWalk<'_>,
-) -> Result<Verdict, Memory>
+) -> Result<Found, Memory>
     requires some { 0 < asked.now.pairs }
     requires pairs { asked.now.pairs ≤ MOST_PAIRS }
     requires members { asked.now.members ≤ MOST_MEMBERS }
@@ -49,7 +59,7 @@ fn against(
     requires fresh { IsFresh left.old.walked }
     requires system { left.old.walked.system ≡ imp.now }
     requires limit { left.old.walked.limit ≡ asked.now.members }
-    ensures { IfOk result (IsSettled asked.now.mode (limits_asked (check_from asked.now)) imp.now spec.now) }
+    ensures { IfOk result (IsFound (check_from asked.now) imp.now spec.now) }
 {
     match LazyWalk::new(alloc, spec, asked.members) {
         Ok(mut right) => search::<Brand>(alloc, asked, left, &mut right, spec, Blank::new(1)),
@@ -59,14 +69,14 @@ fn against(
 }
 
 /// The answer where a side's opening set alone has too many members.
-fn at_opening(what: What, reached: u64) -> Verdict
-    ensures { result ≡ Verdict.Undecided what reached 0 }
+fn at_opening(what: What, reached: u64) -> Found
+    ensures { result ≡ Found.Whole (Answer.Undecided what reached 0) }
 {
-    Verdict::Undecided {
+    Found::Whole(Answer::Undecided {
         what,
         reached,
         depth: 0,
-    }
+    })
 }
 
 /// The search over two walks that hold their opening sets alone.
@@ -77,7 +87,7 @@ fn search<L: Ledger>(
     right: &mut LazyWalk<'_>,
     spec: &Lts,
     blank: Blank,
-) -> Result<Verdict, Memory>
+) -> Result<Found, Memory>
     requires name { blank.name ≡ L.name }
     requires parts { blank.parts ≡ L.parts }
     requires blank { 0 < blank.parts }
@@ -87,19 +97,16 @@ fn search<L: Ledger>(
     requires right_alphabet { HasAlphabet right.old.walked spec.now.inputs spec.now.outputs }
     requires some { 0 < asked.now.pairs }
     requires pairs { asked.now.pairs ≤ MOST_PAIRS }
-    ensures { IfOk result (IsSettled asked.now.mode (limits_between asked.now.pairs left.old.walked right.old.walked) left.old.walked.system right.old.walked.system) }
+    ensures { IfOk result (IsFoundBy (check_from asked.now) left.old.walked right.old.walked) }
 {
     let mut steps = Steps::<L>::new(blank);
     let inputs = spec.inputs();
     let outputs = spec.outputs();
-    settle(
-        alloc,
-        left,
-        right,
-        inputs,
-        outputs,
-        asked.mode,
-        asked.pairs,
-        &mut steps,
-    )
+    let (mode, pairs) = (asked.mode, asked.pairs);
+    if asked.cert {
+        let answer = decide(alloc, left, right, inputs, outputs, mode, pairs, &mut steps)?;
+        return Ok(Found::Whole(answer));
+    }
+    let verdict = settle(alloc, left, right, inputs, outputs, mode, pairs, &mut steps)?;
+    Ok(Found::Told(verdict))
 }

@@ -4,6 +4,7 @@
 mod command;
 mod decision;
 mod outcome;
+mod report;
 mod text;
 mod words;
 

@@ -11,7 +11,7 @@ use std::alloc::Global;
 use torx_words::{Form, Given, NamedOption, Sorting, ValueKind, WordsError, read_words};
 
 /// The options of `check`.
-static OPTIONS: [NamedOption<'static>; 7] = [
+static OPTIONS: [NamedOption<'static>; 8] = [
     NamedOption {
         name: "marks",
         kind: ValueKind::Marks,
@@ -30,6 +30,10 @@ static OPTIONS: [NamedOption<'static>; 7] = [
     },
     NamedOption {
         name: "enabled",
+        kind: ValueKind::Flag,
+    },
+    NamedOption {
+        name: "cert",
         kind: ValueKind::Flag,
     },
     NamedOption {
@@ -59,6 +63,8 @@ pub struct Check<'a> {
     pub mode: Mode,
     /// Whether the implementation has to be input-enabled.
     pub enabled: bool,
+    /// Whether a certificate is to be printed.
+    pub cert: bool,
     /// The most pairs.
     pub pairs: u32,
     /// The most members of the sets of each side.
@@ -97,6 +103,7 @@ fn check_given<'a>(given: &Given<'a>) -> Check<'a>
         divergence: given.divergence(),
         mode: given.mode(),
         enabled: given.flag("enabled"),
+        cert: given.flag("cert"),
         pairs: given.number("pairs", USUAL_PAIRS as u64) as u32,
         members: given.number("members", USUAL_MEMBERS),
         spec: given.required_file(0),

@@ -13,7 +13,8 @@ use Rattle.tool_base.specs.Contents.{Contents, AreTold}
 use Rattle.tool_base.specs.Kinds.{trace_kind}
 use Rattle.tool_base.specs.Once.{IsLike, IsOnce}
 use Rattle.tool_base.specs.Sources.{RefusesSources, AreSystems, all_names}
-use Rattle.tool_base.proofs.InputOnce.{AreTold-left, AreTold-right, sources_refused_once, sources_apart, systems_once, file_once, file_apart, file_refused_once, trace_is_kind}
+use Rattle.tool_base.proofs.InputOnce.{AreTold-left, AreTold-right, sources_refused_once, sources_apart, systems_once, file_once, file_apart, file_refused_once}
+use Rattle.tool_base.proofs.KindLaws.{trace_is_kind}
 use Rattle.cmd_outs.specs.declared.outcome.OutsOutcome.{OutsOutcome}
 use Rattle.cmd_outs.specs.declared.outcome.OutsOutcome.TheVariants.{Printed, Absent}
 use Rattle.cmd_outs.specs.Asked.{AskedOuts, outs_sources, trace_names}

@@ -1,21 +1,15 @@
--- What stops `outs`: an error that is passed on.
-use Rattle.std.proofs.Common.{◌≡◌, [], ◌∷◌, Result, Ok, Err, IsErrAnd, inr, subst}
+-- What stops `outs`: the file of its trace.
+use Rattle.std.proofs.Common.{[], ◌∷◌, inr, subst}
 use Rattle.edge_io.specs.Outside.{ToldFiles, KeepsFiles}
 use Rattle.lts_base.specs.Alphabet.{Alphabet}
 use Rattle.lts_base.specs.System.{System}
 use Rattle.tool_base.specs.declared.refusal.Stop.{Stop}
-use Rattle.tool_base.specs.declared.report.Report.{Report}
 use Rattle.tool_base.specs.Contents.{Contents}
 use Rattle.tool_base.specs.Sources.{AreSystems, all_names}
-use Rattle.tool_base.specs.Pages.{Page, IsOnPage, IsStopped}
+use Rattle.tool_base.specs.Pages.{IsStopped}
 use Rattle.tool_base.proofs.StoppedLaws.{IsStopped-wider, same_contents, within_right}
 use Rattle.cmd_outs.specs.Asked.{AskedOuts, outs_sources, trace_names}
 use Rattle.cmd_outs.specs.Outs.{RefusesTraceOf, outs_page}
-
--- an error that is passed on stopped the command
-pub stopped_on_page : {O : Type 0} (page : Page O) (old new : ToldFiles) (result : Result (Report O) Stop) (stop : Stop) → IsErrAnd result (λ s. s ≡ stop) → IsStopped old new page.names page.refuses stop → IsOnPage page old new result
-stopped_on_page page old new (Ok report) stop is why = absurd is
-stopped_on_page page old new (Err s) stop is why = rw is why
 
 -- what stopped the loading of the trace stopped the command
 pub trace_stopped : (old mid new : ToldFiles) (asked : AskedOuts) (a : Alphabet) (s : System) (stop : Stop) → KeepsFiles old mid → AreSystems old.content (outs_sources asked) a (s ∷ []) →

@@ -1,5 +1,5 @@
 -- From what words ask for to what a command answers.
-use Rattle.std.proofs.Common.{◌≡◌, ℕ, List, Result, Ok, Err, sym, subst}
+use Rattle.std.proofs.Common.{◌≡◌, ℕ, List, Result, Ok, Err, IsErrAnd, sym, subst}
 use Rattle.edge_io.specs.Outside.{ToldFiles}
 use Rattle.torx_words.specs.Form.{Reading}
 use Rattle.torx_words.specs.Accepted.{accepted, asked, asked_by, IsRefusal}
@@ -9,7 +9,7 @@ use Rattle.torx_words.specs.declared.kind.UsageKind.{UsageKind}
 use Rattle.tool_base.specs.declared.refusal.Stop.{Stop}
 use Rattle.tool_base.specs.declared.refusal.Stop.TheVariants.{Usage, Memory}
 use Rattle.tool_base.specs.declared.report.Report.{Report}
-use Rattle.tool_base.specs.Pages.{Command, Answers, AnswersReading, IsOnPage, stop_of}
+use Rattle.tool_base.specs.Pages.{Page, Command, Answers, AnswersReading, IsOnPage, IsStopped, stop_of}
 
 -- words that ask for something are answered by the page of what they ask for
 pub answers_page : {A O : Type 0} (command : Command A O) (words : List (List ℕ)) (x : A) (old new : ToldFiles) (result : Result (Report O) Stop) → asked command.shape command.asked words ≡ Ok x → IsOnPage (command.page old.content x) old new result →
@@ -41,3 +41,8 @@ pub answers_stop : {A O : Type 0} (command : Command A O) (words : List (List �
     Answers command words old new (Err stop)
 answers_stop {A} {O} command words (BadWords kind) stop old new ask is = rw is (answers_usage command words kind old new ask)
 answers_stop {A} {O} command words NoRoomForWords stop old new ask is = rw is (answers_memory command words old new)
+
+-- an error that is passed on stopped the command
+pub stopped_on_page : {O : Type 0} (page : Page O) (old new : ToldFiles) (result : Result (Report O) Stop) (stop : Stop) → IsErrAnd result (λ s. s ≡ stop) → IsStopped old new page.names page.refuses stop → IsOnPage page old new result
+stopped_on_page page old new (Ok report) stop is why = absurd is
+stopped_on_page page old new (Err s) stop is why = rw is why

@@ -1,7 +1,6 @@
 -- Files whose contents are told are refused for one cause, or else give one alphabet and one list of systems.
 use Rattle.std.proofs.Common.{◌≡◌, ◌∙◌, ℕ, ◌≤◌, List, [], ◌∷◌, ◌++◌, length, map, All, Option, Some, IfSome, Err, inl, inr, refl, sym, ap, subst, arith}
 use Rattle.std.proofs.lemmas.List.Elements.{All-head, All-tail}
-use Rattle.lts_base.specs.declared.item.Item.{Item}
 use Rattle.lts_base.specs.Sorting.{IsAlphabetOf, AreSystemsFor}
 use Rattle.lts_base.specs.declared.divergence.Divergence.{Divergence}
 use Rattle.lts_base.specs.declared.divergence.Divergence.TheVariants.{Refuse, Quiet}
@@ -13,20 +12,15 @@ use Rattle.lts_base.specs.Raw.{RawSystem}
 use Rattle.lts_base.specs.Shape.{IsConvergent}
 use Rattle.lts_base.proofs.SplitOnce.{split_systems_once, split_once, memory_alone}
 use Rattle.lts_shape.proofs.CycleLaws.{IsTauCycle-diverges}
-use Rattle.text_scan.proofs.ListingOnce.{listing_only, refuses_only}
-use Rattle.aut_text.proofs.OnceLaws.{aut_excludes}
-use Rattle.aut_text.proofs.RawOnce.{raw_once}
-use Rattle.aut_text.proofs.FaultLaws.{refuses_once}
-use Rattle.trace_text.proofs.OnceLaws.{trace_fine, fault_once, trace_once}
 use Rattle.torx_words.specs.Meaning.{AskedSorting, by_prefix, by_suffix, by_list}
 use Rattle.tool_base.specs.declared.refusal.FileError.{FileError}
-use Rattle.tool_base.specs.declared.refusal.FileError.TheVariants.{Aut, Lines, UnknownLabel}
 use Rattle.tool_base.specs.declared.refusal.Refusal.{Refusal}
 use Rattle.tool_base.specs.declared.refusal.Refusal.TheVariants.{TooLong, BadFile, BadLabels, Divergent, FileFault}
 use Rattle.tool_base.specs.Contents.{Contents, HasContent, AreTold}
-use Rattle.tool_base.specs.Kinds.{Kind, IsFile, IsLong, IsBad, RefusesFile, system_kind, list_kind, trace_kind}
+use Rattle.tool_base.specs.Kinds.{Kind, IsFile, IsLong, IsBad, RefusesFile, system_kind, list_kind}
 use Rattle.tool_base.specs.Sources.{Sources, AreRead, RefusesSystems, IsRule, RefusesRule, RefusesLabels, IsCycleOf, IsDiverging, RefusesCycles, AreSettled, AreRuled, AreSplit, AreSystems, RefusesSources, read_as, all_names, list_names}
 use Rattle.tool_base.specs.Once.{IsLike, IsKind}
+use Rattle.tool_base.proofs.KindLaws.{system_is_kind, list_is_kind}
 
 -- ---- contents that are told
 
@@ -45,67 +39,13 @@ content_once contents name told c d is one other =
     let second : d ≡ told = subst (λ (o : Option (List ℕ)). IfSome o (λ t. d ≡ t)) is other in
     first ∙ sym second
 
--- ---- kinds
-
-aut_fault_once : (c : List ℕ) (e f : FileError) → system_kind.faulty c e → system_kind.faulty c f → e ≡ f
-aut_fault_once c (Aut e) (Aut f) one other = elim (refuses_once c e f one.0 other.0) [
-  | inl same ↦ ap Aut same
-  | inr (inl memory) ↦ absurd (one.1 memory)
-  | inr (inr memory) ↦ absurd (other.1 memory)
-]
-aut_fault_once c (Aut e) (Lines f) one other = absurd other
-aut_fault_once c (Aut e) (UnknownLabel n) one other = absurd other
-aut_fault_once c (Lines e) f one other = absurd one
-aut_fault_once c (UnknownLabel n) f one other = absurd one
-
-aut_apart : (c : List ℕ) (r : RawSystem) (e : FileError) → system_kind.reads c r → ¬ system_kind.faulty c e
-aut_apart c r (Aut error) file h = h.1 (aut_excludes c r error file.file h.0)
-aut_apart c r (Lines error) file h = h
-aut_apart c r (UnknownLabel n) file h = h
-
-pub system_is_kind : IsKind system_kind
-system_is_kind = record { once = raw_once; fault = aut_fault_once; apart = aut_apart }
-
-list_fault_once : (c : List ℕ) (e f : FileError) → list_kind.faulty c e → list_kind.faulty c f → e ≡ f
-list_fault_once c (Lines e) (Lines f) one other = elim (refuses_only c f (Err e) one.0 other.0 other.1) [
-  | inl same ↦ ap Lines same
-  | inr memory ↦ absurd (one.1 memory)
-]
-list_fault_once c (Lines e) (Aut f) one other = absurd other
-list_fault_once c (Lines e) (UnknownLabel n) one other = absurd other
-list_fault_once c (Aut e) f one other = absurd one
-list_fault_once c (UnknownLabel n) f one other = absurd one
-
-list_apart : (c : List ℕ) (labels : List (List ℕ)) (e : FileError) → list_kind.reads c labels → ¬ list_kind.faulty c e
-list_apart c labels (Lines error) is h = h.1 (listing_only c labels (Err error) h.0 is)
-list_apart c labels (Aut error) is h = h
-list_apart c labels (UnknownLabel n) is h = h
-
-pub list_is_kind : IsKind list_kind
-list_is_kind = record { once = λ c x y one other. one.texts ∙ sym other.texts; fault = list_fault_once; apart = list_apart }
-
-trace_fault_once : (a : Alphabet) (c : List ℕ) (e f : FileError) → (trace_kind a).faulty c e → (trace_kind a).faulty c f → e ≡ f
-trace_fault_once a c (UnknownLabel n) (UnknownLabel m) one other = ap UnknownLabel (fault_once a c n m one other)
-trace_fault_once a c (UnknownLabel n) (Aut f) one other = absurd other
-trace_fault_once a c (UnknownLabel n) (Lines f) one other = absurd other
-trace_fault_once a c (Aut e) f one other = absurd one
-trace_fault_once a c (Lines e) f one other = absurd one
-
-pub trace_is_kind : (a : Alphabet) → IsAlphabet a → IsKind (trace_kind a)
-trace_is_kind a alphabet = record { once = λ c σ τ one other. trace_once a c σ τ alphabet one other; fault = trace_fault_once a; apart = apart }
-  where
-    apart : (c : List ℕ) (σ : List Item) (e : FileError) → (trace_kind a).reads c σ → ¬ (trace_kind a).faulty c e
-    apart c σ (UnknownLabel n) is h = trace_fine a c σ n is h
-    apart c σ (Aut error) is h = h
-    apart c σ (Lines error) is h = h
-
 -- ---- one file
 
 -- a file is read as one value
 pub file_once : {X : Type 0} (kind : Kind X) (contents : Contents) (name told : List ℕ) (x y : X) → IsKind kind → contents name ≡ Some told → IsFile kind contents name x → IsFile kind contents name y → x ≡ y
 file_once {X} kind contents name told x y is tells one other =
     let same : one.content ≡ other.content = content_once contents name told one.content other.content tells one.has other.has in
-    is.once other.content x y (subst (λ (c : List ℕ). kind.reads c x) same one.reads) other.reads
+    is.once other.content x y other.short (subst (λ (c : List ℕ). kind.reads c x) same one.reads) other.reads
 
 -- a file that is read isn't refused
 pub file_apart : {X : Type 0} (kind : Kind X) (contents : Contents) (name told : List ℕ) (x : X) (r : Refusal) → IsKind kind → contents name ≡ Some told → IsFile kind contents name x → ¬ RefusesFile kind contents name r
@@ -116,7 +56,7 @@ file_apart {X} kind contents name told x (TooLong named) is tells file (at, long
     omega (arith, short, more)
 file_apart {X} kind contents name told x (BadFile named error) is tells file (at, bad) =
     let same : bad.content ≡ file.content = content_once contents name told bad.content file.content tells bad.has file.has in
-    is.apart file.content x error file.reads (subst (λ (c : List ℕ). kind.faulty c error) same bad.faulty)
+    is.apart file.content x error file.short file.reads (subst (λ (c : List ℕ). kind.faulty c error) same bad.faulty)
 file_apart {X} kind contents name told x (BadLabels error) is tells file h = h
 file_apart {X} kind contents name told x (Divergent named cycle) is tells file h = h
 file_apart {X} kind contents name told x (FileFault named) is tells file h = h
@@ -136,7 +76,7 @@ file_refused_once {X} kind contents name told (TooLong one) (BadFile other error
 file_refused_once {X} kind contents name told (BadFile one error) (TooLong other) is tells h k = absurd (long_good kind contents name told error tells k.1 h.1)
 file_refused_once {X} kind contents name told (BadFile one error) (BadFile other fault) is tells h k =
     let same : h.1.content ≡ k.1.content = content_once contents name told h.1.content k.1.content tells h.1.has k.1.has in
-    let e : error ≡ fault = is.fault k.1.content error fault (subst (λ (c : List ℕ). kind.faulty c error) same h.1.faulty) k.1.faulty in
+    let e : error ≡ fault = is.fault k.1.content error fault k.1.short (subst (λ (c : List ℕ). kind.faulty c error) same h.1.faulty) k.1.faulty in
     ap (λ n. BadFile n error) (h.0 ∙ sym k.0) ∙ ap (BadFile other) e
 file_refused_once {X} kind contents name told (TooLong one) (BadLabels error) is tells h k = absurd k
 file_refused_once {X} kind contents name told (TooLong one) (Divergent other cycle) is tells h k = absurd k
@@ -157,21 +97,21 @@ raws_once contents [] (r ∷ rs) qs told one other = absurd one
 raws_once contents (n ∷ ns) [] qs told one other = absurd one
 raws_once contents (n ∷ ns) (r ∷ rs) [] told one other = absurd other
 raws_once contents (n ∷ ns) (r ∷ rs) (q ∷ qs) told one other =
-    let here : r ≡ q = file_once system_kind contents n told.0.0 r q system_is_kind told.0.1 one.0 other.0 in
+    let here : r ≡ q = file_once (system_kind n) contents n told.0.0 r q (system_is_kind n) told.0.1 one.0 other.0 in
     let rest : rs ≡ qs = raws_once contents ns rs qs told.1 one.1 other.1 in
     ap (λ x. x ∷ rs) here ∙ ap (λ xs. q ∷ xs) rest
 
 raws_apart : (contents : Contents) (names : List (List ℕ)) (rs : List RawSystem) (r : Refusal) → AreTold contents names → AreRead contents names rs → ¬ RefusesSystems contents names r
 raws_apart contents [] rs r told read h = h
 raws_apart contents (n ∷ ns) [] r told read h = read
-raws_apart contents (n ∷ ns) (raw ∷ rs) r told read (inl h) = file_apart system_kind contents n told.0.0 raw r system_is_kind told.0.1 read.0 h
+raws_apart contents (n ∷ ns) (raw ∷ rs) r told read (inl h) = file_apart (system_kind n) contents n told.0.0 raw r (system_is_kind n) told.0.1 read.0 h
 raws_apart contents (n ∷ ns) (raw ∷ rs) r told read (inr (first, h)) = raws_apart contents ns rs r told.1 read.1 h
 
 raws_refused_once : (contents : Contents) (names : List (List ℕ)) (r q : Refusal) → AreTold contents names → RefusesSystems contents names r → RefusesSystems contents names q → IsLike r q
 raws_refused_once contents [] r q told h k = absurd h
-raws_refused_once contents (n ∷ ns) r q told (inl h) (inl k) = file_refused_once system_kind contents n told.0.0 r q system_is_kind told.0.1 h k
-raws_refused_once contents (n ∷ ns) r q told (inl h) (inr ((raw, read), k)) = absurd (file_apart system_kind contents n told.0.0 raw r system_is_kind told.0.1 read h)
-raws_refused_once contents (n ∷ ns) r q told (inr ((raw, read), h)) (inl k) = absurd (file_apart system_kind contents n told.0.0 raw q system_is_kind told.0.1 read k)
+raws_refused_once contents (n ∷ ns) r q told (inl h) (inl k) = file_refused_once (system_kind n) contents n told.0.0 r q (system_is_kind n) told.0.1 h k
+raws_refused_once contents (n ∷ ns) r q told (inl h) (inr ((raw, read), k)) = absurd (file_apart (system_kind n) contents n told.0.0 raw r (system_is_kind n) told.0.1 read h)
+raws_refused_once contents (n ∷ ns) r q told (inr ((raw, read), h)) (inl k) = absurd (file_apart (system_kind n) contents n told.0.0 raw q (system_is_kind n) told.0.1 read k)
 raws_refused_once contents (n ∷ ns) r q told (inr (first, h)) (inr (other, k)) = raws_refused_once contents ns r q told.1 h k
 
 -- ---- the rule

@@ -1,4 +1,5 @@
 pub mod LoadLaws
 pub mod StoppedLaws
+pub mod KindLaws
 pub mod InputOnce
 pub mod CommandLaws

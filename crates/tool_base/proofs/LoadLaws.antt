@@ -15,7 +15,6 @@ use Rattle.tool_base.specs.Contents.{Contents}
 use Rattle.tool_base.specs.Kinds.{IsFile, IsLong, RefusesFile, system_kind}
 use Rattle.tool_base.specs.Sources.{Sources, AreRead, RefusesSystems, IsCycleOf, IsDiverging, AreRuled, AreSystems, RefusesSources, read_as}
 use Rattle.tool_base.specs.declared.refusal.Refusal.TheVariants.{TooLong}
-use Rattle.lts_base.specs.declared.limits.TheConstants.{MOST_FILE_BYTES}
 use Rattle.tool_base.specs.Loads.{IsStopBy, IsTooLong}
 use Rattle.tool_base.specs.Given.{IsSettledOf, RefusesSettled}
 
@@ -31,7 +30,7 @@ IsLong-told most contents name h = go (contents name) refl h
 
 -- one file more is read
 pub AreRead-more : (contents : Contents) (names : List (List ℕ)) (raws : List RawSystem) (i : ℕ) (name : List ℕ) (raw : RawSystem) → i < length names → name ≡ get_or names i name →
-    AreRead contents (take i names) raws → IsFile system_kind contents name raw → AreRead contents (take (i + 1) names) (raws ++ raw ∷ [])
+    AreRead contents (take i names) raws → IsFile (system_kind name) contents name raw → AreRead contents (take (i + 1) names) (raws ++ raw ∷ [])
 AreRead-more contents names raws i name raw below is read file =
     let more : take (i + 1) names ≡ take i names ++ name ∷ [] = take_more names i name below ∙ ap (λ n. take i names ++ n ∷ []) (sym is) in
     subst (λ ns. AreRead contents ns (raws ++ raw ∷ [])) (sym more) (go (take i names) raws read)
@@ -44,12 +43,12 @@ AreRead-more contents names raws i name raw below is read file =
 
 -- the next file is the first one that is refused
 pub RefusesSystems-at : (contents : Contents) (names : List (List ℕ)) (raws : List RawSystem) (i : ℕ) (name : List ℕ) (r : Refusal) → i < length names → name ≡ get_or names i name →
-    AreRead contents (take i names) raws → RefusesFile system_kind contents name r → RefusesSystems contents names r
+    AreRead contents (take i names) raws → RefusesFile (system_kind name) contents name r → RefusesSystems contents names r
 RefusesSystems-at contents names raws i name r below is read why = go names raws i below is read
   where
     go : (ns : List (List ℕ)) (rs : List RawSystem) (k : ℕ) → k < length ns → name ≡ get_or ns k name → AreRead contents (take k ns) rs → RefusesSystems contents ns r
     go [] rs k low at so = absurd (omega (arith, low))
-    go (n ∷ ns) rs zero low at so = inl (subst (λ (m : List ℕ). RefusesFile system_kind contents m r) at why)
+    go (n ∷ ns) rs zero low at so = inl (subst (λ (m : List ℕ). RefusesFile (system_kind m) contents m r) at why)
     go (n ∷ ns) [] (suc k) low at so = absurd so
     go (n ∷ ns) (raw ∷ rs) (suc k) low at so = inr ((raw, so.0), go ns rs k (omega (arith, low)) at so.1)
 
@@ -125,6 +124,6 @@ quieted_more systems read i s t below is so quiet =
     sym (map-append (read_as Quiet) (take i systems) (s ∷ [])) ∙ ap (map (read_as Quiet)) (sym more)
 
 -- what is stopped by a file that is told to be too long
-pub too_long_told : (old new : ToldFiles) (name : List ℕ) (stop : Stop) → IfSome (old.content name) (λ c. MOST_FILE_BYTES < length c) → IsStopBy (TooLong name) stop → IsTooLong old new name stop
-too_long_told old new name stop long (inl memory) = rw memory tt
-too_long_told old new name stop long (inr is) = rw is (inr (refl, IsLong-told MOST_FILE_BYTES old.content name long))
+pub too_long_told : (most : ℕ) (old new : ToldFiles) (name : List ℕ) (stop : Stop) → IfSome (old.content name) (λ c. most < length c) → IsStopBy (TooLong name) stop → IsTooLong most old new name stop
+too_long_told most old new name stop long (inl memory) = rw memory tt
+too_long_told most old new name stop long (inr is) = rw is (inr (refl, IsLong-told most old.content name long))

@@ -75,11 +75,11 @@ passed_on P Q (Err f) e is h = rw is h
 
 -- a file that was loaded in turn stopped the whole
 pub raws_stopped : (old mid new : ToldFiles) (names : List (List ℕ)) (raws : List RawSystem) (i : ℕ) (name : List ℕ) (stop : Stop) → KeepsFiles old mid → i < length names → name ≡ get_or names i name →
-    AreRead old.content (take i names) raws → IsStopped mid new (name ∷ []) (RefusesFile system_kind mid.content name) stop → IsStopped old new names (RefusesSystems old.content names) stop
+    AreRead old.content (take i names) raws → IsStopped mid new (name ∷ []) (RefusesFile (system_kind name) mid.content name) stop → IsStopped old new names (RefusesSystems old.content names) stop
 raws_stopped old mid new names raws i name stop keeps below is read h =
-    IsStopped-wider old mid new (name ∷ []) names (RefusesFile system_kind mid.content name) (RefusesSystems old.content names) stop keeps
+    IsStopped-wider old mid new (name ∷ []) names (RefusesFile (system_kind name) mid.content name) (RefusesSystems old.content names) stop keeps
     (λ n has. rw (one_name n has) (named))
-    (λ r why. RefusesSystems-at old.content names raws i name r below is read (subst (λ (c : Contents). RefusesFile system_kind c name r) (same_contents old mid keeps) why)) h
+    (λ r why. RefusesSystems-at old.content names raws i name r below is read (subst (λ (c : Contents). RefusesFile (system_kind name) c name r) (same_contents old mid keeps) why)) h
   where
     named : Contains names name
     named = rw (← is) at (Contains-get_or names i name below)
@@ -88,8 +88,8 @@ raws_stopped old mid new names raws i name stop keeps below is read h =
     one_name n has = elim (Contains-first_cases name [] n has) [ inl same ↦ sym same | inr none ↦ absurd (Contains-none n none) ]
 
 -- a file that was loaded in turn is read of the first contents
-pub file_before : (old mid : ToldFiles) (name : List ℕ) (raw : RawSystem) → KeepsFiles old mid → IsFile system_kind mid.content name raw → IsFile system_kind old.content name raw
-file_before old mid name raw keeps file = subst (λ (c : Contents). IsFile system_kind c name raw) (same_contents old mid keeps) file
+pub file_before : (old mid : ToldFiles) (name : List ℕ) (raw : RawSystem) → KeepsFiles old mid → IsFile (system_kind name) mid.content name raw → IsFile (system_kind name) old.content name raw
+file_before old mid name raw keeps file = subst (λ (c : Contents). IsFile (system_kind name) c name raw) (same_contents old mid keeps) file
 
 -- ---- all systems
 

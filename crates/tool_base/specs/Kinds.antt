@@ -1,7 +1,8 @@
 -- Promise: kinds of files, when a file is read as a value of its kind, and why it is refused.
-use Rattle.std.specs.Prelude.{◌≡◌, ℕ, ◌<◌, ◌≤◌, List, length}
+use Rattle.std.specs.Prelude.{◌≡◌, Bool, true, false, eqb, ℕ, ◌<◌, ◌≤◌, List, length, codes}
+use Rattle.std.specs.List.{ends_with}
 use Rattle.lts_base.specs.declared.item.Item.{Item}
-use Rattle.lts_base.specs.declared.limits.TheConstants.{MOST_FILE_BYTES}
+use Rattle.lts_base.specs.declared.limits.TheConstants.{MOST_FILE_BYTES, MOST_CERT_BYTES}
 use Rattle.lts_base.specs.Alphabet.{Alphabet}
 use Rattle.lts_base.specs.Raw.{RawSystem}
 use Rattle.text_scan.specs.Listing.{IsListing, RefusesListing}
@@ -9,9 +10,15 @@ use Rattle.text_scan.specs.declared.error.LinesError.TheVariants.{Memory as NoRo
 use Rattle.aut_text.specs.Grammar.{IsAutFile}
 use Rattle.aut_text.specs.Faults.{RefusesAut}
 use Rattle.aut_text.specs.declared.error.AutError.TheVariants.{Memory as NoRoomForFile}
+use Rattle.graphml_text.specs.Document.{IsGraphmlFile, RefusesGraphml}
+use Rattle.graphml_text.specs.declared.error.GraphError.TheVariants.{Memory as NoRoomForGraph}
 use Rattle.trace_text.specs.Traces.{IsTrace, RefusesTrace}
+use Rattle.cert_text.specs.declared.cert.Cert.{Cert}
+use Rattle.cert_text.specs.declared.error.CertError.TheVariants.{Memory as NoRoomForCert}
+use Rattle.cert_text.specs.Certificate.{IsCertOf}
+use Rattle.cert_text.specs.Faults.{RefusesCert}
 use Rattle.tool_base.specs.declared.refusal.FileError.{FileError}
-use Rattle.tool_base.specs.declared.refusal.FileError.TheVariants.{Aut, Lines, UnknownLabel}
+use Rattle.tool_base.specs.declared.refusal.FileError.TheVariants.{Aut, Graph, Lines, Cert as Certified, UnknownLabel}
 use Rattle.tool_base.specs.declared.refusal.Refusal.{Refusal}
 use Rattle.tool_base.specs.declared.refusal.Refusal.TheVariants.{TooLong, BadFile}
 use Rattle.tool_base.specs.Contents.{Contents, HasContent}
@@ -48,26 +55,43 @@ RefusesFile kind contents name (TooLong named) = (named ≡ name) × IsLong kind
 RefusesFile kind contents name (BadFile named error) = (named ≡ name) × IsBad kind contents name error
 RefusesFile kind contents name other = ⊥
 
-abbrev pub IsFaultySystem : List ℕ → FileError → Type 0
-IsFaultySystem content (Aut error) = RefusesAut content error × ¬ (error ≡ NoRoomForFile)
-IsFaultySystem content other = ⊥
+-- the reader of the content refuses it for this, and not for want of memory
+abbrev pub IsFaultBy : {E : Type 0} → (E → FileError) → E → (List ℕ → E → Type 0) → List ℕ → FileError → Type 0
+IsFaultBy {E} told memory refuses content error = (e : E) × (error ≡ told e) × refuses content e × ¬ (e ≡ memory)
 
-abbrev pub IsFaultyList : List ℕ → FileError → Type 0
-IsFaultyList content (Lines error) = RefusesListing content error × ¬ (error ≡ NoRoomForList)
-IsFaultyList content other = ⊥
-
+-- the content is no trace over the alphabet: this line names no item
 abbrev pub IsFaultyTrace : Alphabet → List ℕ → FileError → Type 0
-IsFaultyTrace a content (UnknownLabel line) = RefusesTrace a content line
-IsFaultyTrace a content other = ⊥
+IsFaultyTrace a content error = (line : ℕ) × (error ≡ UnknownLabel line) × RefusesTrace a content line
 
--- files of systems: Aldebaran files
-abbrev pub system_kind : Kind RawSystem
-system_kind = record { most = MOST_FILE_BYTES; reads = IsAutFile; faulty = IsFaultySystem }
+-- Aldebaran files
+abbrev pub aut_kind : Kind RawSystem
+aut_kind = record { most = MOST_FILE_BYTES; reads = IsAutFile; faulty = IsFaultBy Aut NoRoomForFile RefusesAut }
+
+-- GraphML files
+abbrev pub graph_kind : Kind RawSystem
+graph_kind = record { most = MOST_FILE_BYTES; reads = IsGraphmlFile; faulty = IsFaultBy Graph NoRoomForGraph RefusesGraphml }
+
+-- the name is that of a GraphML file
+abbrev pub is_graphml : List ℕ → Bool
+is_graphml name = ends_with eqb name (codes ".graphml")
+
+-- files of systems, GraphML or Aldebaran ones
+abbrev pub kind_of : Bool → Kind RawSystem
+kind_of true = graph_kind
+kind_of false = aut_kind
+
+-- files of systems, by their names
+abbrev pub system_kind : List ℕ → Kind RawSystem
+system_kind name = kind_of (is_graphml name)
 
 -- files that list labels
 abbrev pub list_kind : Kind (List (List ℕ))
-list_kind = record { most = MOST_FILE_BYTES; reads = IsListing; faulty = IsFaultyList }
+list_kind = record { most = MOST_FILE_BYTES; reads = IsListing; faulty = IsFaultBy Lines NoRoomForList RefusesListing }
 
 -- files of traces over an alphabet
 abbrev pub trace_kind : Alphabet → Kind (List Item)
 trace_kind a = record { most = MOST_FILE_BYTES; reads = IsTrace a; faulty = IsFaultyTrace a }
+
+-- certificates over an alphabet, of an implementation and a specification with so many states
+abbrev pub cert_kind : Alphabet → ℕ → ℕ → Kind Cert
+cert_kind a imp spec = record { most = MOST_CERT_BYTES; reads = IsCertOf a imp spec; faulty = IsFaultBy Certified NoRoomForCert (RefusesCert a imp spec) }

@@ -1,6 +1,5 @@
 -- Promise: what loading a file answers.
 use Rattle.std.specs.Prelude.{◌≡◌, ℕ, ◌≤◌, List, [], ◌∷◌, length, ◌⊎◌, Result, MatchResult}
-use Rattle.lts_base.specs.declared.limits.TheConstants.{MOST_FILE_BYTES}
 use Rattle.edge_io.specs.Outside.{ToldFiles}
 use Rattle.tool_base.specs.declared.refusal.Refusal.{Refusal}
 use Rattle.tool_base.specs.declared.refusal.Refusal.TheVariants.{TooLong}
@@ -15,16 +14,16 @@ abbrev pub Loads : {X : Type 0} → Kind X → ToldFiles → ToldFiles → List 
 Loads kind old new name result = MatchResult result (IsFile kind old.content name) (IsStopped old new (name ∷ []) (RefusesFile kind old.content name))
 
 -- this is the content of the file, which is within the limit
-abbrev pub HasShortContent : ToldFiles → List ℕ → List ℕ → Type 0
-HasShortContent told name content = HasContent told.content name content × (length content ≤ MOST_FILE_BYTES)
+abbrev pub HasShortContent : ℕ → ToldFiles → List ℕ → List ℕ → Type 0
+HasShortContent most told name content = HasContent told.content name content × (length content ≤ most)
 
-abbrev pub IsLongBy : ToldFiles → List ℕ → Refusal → Type 0
-IsLongBy told name (TooLong named) = (named ≡ name) × IsLong MOST_FILE_BYTES told.content name
-IsLongBy told name other = ⊥
+abbrev pub IsLongBy : ℕ → ToldFiles → List ℕ → Refusal → Type 0
+IsLongBy most told name (TooLong named) = (named ≡ name) × IsLong most told.content name
+IsLongBy most told name other = ⊥
 
 -- the file couldn't be read, or is too long
-abbrev pub IsTooLong : ToldFiles → ToldFiles → List ℕ → Stop → Type 0
-IsTooLong old new name stop = IsStopped old new (name ∷ []) (IsLongBy old name) stop
+abbrev pub IsTooLong : ℕ → ToldFiles → ToldFiles → List ℕ → Stop → Type 0
+IsTooLong most old new name stop = IsStopped old new (name ∷ []) (IsLongBy most old name) stop
 
 -- memory ran out, or it is stopped by this refusal
 abbrev pub IsStopBy : Refusal → Stop → Type 0

@@ -1,5 +1,5 @@
 -- Promise: that a command answers one thing for files whose contents are told.
-use Rattle.std.specs.Prelude.{◌≡◌, ℕ, List, []}
+use Rattle.std.specs.Prelude.{◌≡◌, ℕ, ◌≤◌, List, [], length}
 use Rattle.tool_base.specs.declared.refusal.Refusal.{Refusal}
 use Rattle.tool_base.specs.declared.refusal.Refusal.TheVariants.{TooLong, BadFile, BadLabels, Divergent, FileFault}
 use Rattle.tool_base.specs.declared.refusal.FileError.{FileError}
@@ -24,8 +24,8 @@ pub record IsOnce {O : Type 0} (page : Page O) : Type 0 where
   pub apart : (r : Refusal) (o : O) (t : List ℕ) → page.refuses r → ¬ page.answers o t
   pub answered : (o p : O) (t u : List ℕ) → page.answers o t → page.answers p u → o ≡ p
 
--- a content of the kind is read as one value, or else it has one first fault
+-- a content of the kind, if it isn't too long, is read as one value, or else it has one first fault
 pub record IsKind {X : Type 0} (kind : Kind X) : Type 0 where
-  pub once : (c : List ℕ) (x y : X) → kind.reads c x → kind.reads c y → x ≡ y
-  pub fault : (c : List ℕ) (e f : FileError) → kind.faulty c e → kind.faulty c f → e ≡ f
-  pub apart : (c : List ℕ) (x : X) (e : FileError) → kind.reads c x → ¬ kind.faulty c e
+  pub once : (c : List ℕ) (x y : X) → length c ≤ kind.most → kind.reads c x → kind.reads c y → x ≡ y
+  pub fault : (c : List ℕ) (e f : FileError) → length c ≤ kind.most → kind.faulty c e → kind.faulty c f → e ≡ f
+  pub apart : (c : List ℕ) (x : X) (e : FileError) → length c ≤ kind.most → kind.reads c x → ¬ kind.faulty c e

@@ -32,13 +32,13 @@ list_names (by_list name) = name ∷ []
 
 -- the files of the systems are read as these raw systems
 abbrev pub AreRead : Contents → List (List ℕ) → List RawSystem → Type 0
-AreRead contents names raws = AllZip (IsFile system_kind contents) names raws
+AreRead contents names raws = AllZip (λ (name : List ℕ). IsFile (system_kind name) contents name) names raws
 
 -- the first of the files of the systems that is refused, for this; those before it are read
 abbrev pub RefusesSystems : Contents → List (List ℕ) → Refusal → Type 0
 RefusesSystems contents [] r = ⊥
-RefusesSystems contents (name ∷ names) r = RefusesFile system_kind contents name r ⊎
-    (((raw : RawSystem) × IsFile system_kind contents name raw) × RefusesSystems contents names r)
+RefusesSystems contents (name ∷ names) r = RefusesFile (system_kind name) contents name r ⊎
+    (((raw : RawSystem) × IsFile (system_kind name) contents name raw) × RefusesSystems contents names r)
 
 -- the rule by which labels are sorted
 abbrev pub IsRule : Contents → AskedSorting → Rule → Type 0

@@ -3,6 +3,7 @@
 #![tactic(auto)]
 
 mod cycles;
+mod error_text;
 mod load;
 mod raw;
 mod refusal;
@@ -11,7 +12,7 @@ mod sources;
 mod systems;
 mod text;
 
-pub use load::{load_trace, loaded_name};
+pub use load::{load_cert, load_trace, loaded_name};
 pub use refusal::{FileError, Refusal, Stop, words_stop};
 pub use report::Report;
 pub use sources::Sources;

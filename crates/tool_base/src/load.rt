@@ -6,29 +6,61 @@ ghost use Rattle.text_scan.specs.Listing.{IsListing, RefusesListing};
 ghost use Rattle.aut_text.specs.Grammar.{IsAutFile};
 ghost use Rattle.aut_text.specs.Faults.{RefusesAut};
 ghost use Rattle.trace_text.specs.Items.{IsItem};
-ghost use Rattle.tool_base.specs.Kinds.{system_kind, list_kind, trace_kind};
+ghost use Rattle.tool_base.specs.Kinds.{aut_kind, graph_kind, is_graphml as names_graphml, system_kind, list_kind, trace_kind, cert_kind};
 ghost use Rattle.tool_base.specs.Loads.{Loads, IsTooLong, HasShortContent, IsStopBy};
 
 use crate::refusal::{FileError, Refusal, Stop};
 use aut_text::{AutError, AutReader};
+use cert_text::{Cert, CertError, read_cert};
 use edge_io::{Files, LoadError, load_all};
-use lts_base::limits::MOST_FILE_BYTES;
+use graphml_text::{GraphError, read_graphml};
+use lts_base::limits::{MOST_CERT_BYTES, MOST_FILE_BYTES};
 use lts_base::{Labels, Listed, Memory, PackedTexts, RawLts, Text, Trace};
 use std::alloc::Global;
 use text_scan::{LinesError, read_list};
 use trace_text::{TraceError, read_trace};
 
-/// The system of a file.
+/// The system of a file, which is read by its name.
 pub(crate) fn load_system<F: Files>(
     alloc: Global,
     files: &mut F,
     name: &str,
 ) -> Result<RawLts, Stop>
-    ensures loaded { Loads system_kind (F.told files.old) (F.told files.new) name.now result }
+    ensures loaded { Loads (system_kind name.now) (F.told files.old) (F.told files.new) name.now result }
     ensures keeps { KeepsFiles (F.told files.old) (F.told files.new) }
 {
-    let content = content(alloc, files, name)?;
-    match read_system(alloc, content.as_slice()) {
+    if is_graphml(name) {
+        load_graph(alloc, files, name)
+    } else {
+        load_aut(alloc, files, name)
+    }
+}
+
+/// Whether the name is that of a GraphML file.
+fn is_graphml(name: &str) -> bool
+    ensures { result ≡ names_graphml name.now }
+{
+    name.as_bytes().ends_with(b".graphml")
+}
+
+fn load_graph<F: Files>(alloc: Global, files: &mut F, name: &str) -> Result<RawLts, Stop>
+    ensures loaded { Loads graph_kind (F.told files.old) (F.told files.new) name.now result }
+    ensures keeps { KeepsFiles (F.told files.old) (F.told files.new) }
+{
+    let content = content(alloc, files, name, MOST_FILE_BYTES)?;
+    match read_graphml(alloc, content.as_slice()) {
+        Ok(raw) => Ok(raw),
+        Err(GraphError::Memory) => Err(Stop::Memory),
+        Err(error) => Err(bad_file(alloc, name, FileError::Graph(error))),
+    }
+}
+
+fn load_aut<F: Files>(alloc: Global, files: &mut F, name: &str) -> Result<RawLts, Stop>
+    ensures loaded { Loads aut_kind (F.told files.old) (F.told files.new) name.now result }
+    ensures keeps { KeepsFiles (F.told files.old) (F.told files.new) }
+{
+    let content = content(alloc, files, name, MOST_FILE_BYTES)?;
+    match read_aut(alloc, content.as_slice()) {
         Ok(raw) => Ok(raw),
         Err(AutError::Memory) => Err(Stop::Memory),
         Err(error) => Err(bad_file(alloc, name, FileError::Aut(error))),
@@ -44,7 +76,7 @@ pub(crate) fn load_list<F: Files>(
     ensures loaded { Loads list_kind (F.told files.old) (F.told files.new) name.now result }
     ensures keeps { KeepsFiles (F.told files.old) (F.told files.new) }
 {
-    let content = content(alloc, files, name)?;
+    let content = content(alloc, files, name, MOST_FILE_BYTES)?;
     match listed(alloc, content.as_slice()) {
         Ok(inputs) => Ok(inputs),
         Err(LinesError::Memory) => Err(Stop::Memory),
@@ -63,7 +95,7 @@ pub fn load_trace<F: Files>(
     ensures items { IfOk result (λ σ. All (IsItem labels.now) σ × (length σ ≤ MOST_FILE_BYTES)) }
     ensures keeps { KeepsFiles (F.told files.old) (F.told files.new) }
 {
-    let content = content(alloc, files, name)?;
+    let content = content(alloc, files, name, MOST_FILE_BYTES)?;
     match read_trace(alloc, content.as_slice(), labels) {
         Ok(trace) => Ok(trace),
         Err(TraceError::Memory) => Err(Stop::Memory),
@@ -73,12 +105,32 @@ pub fn load_trace<F: Files>(
     }
 }
 
-/// The whole content of a file.
-fn content<F: Files>(alloc: Global, files: &mut F, name: &str) -> Result<Text, Stop>
-    ensures loaded { MatchResult result (HasShortContent (F.told files.old) name.now) (IsTooLong (F.told files.old) (F.told files.new) name.now) }
+/// The certificate of a file, over the labels, for systems with so many states.
+pub fn load_cert<F: Files>(
+    alloc: Global,
+    files: &mut F,
+    name: &str,
+    labels: &Labels,
+    imp_states: u32,
+    spec_states: u32,
+) -> Result<Cert, Stop>
+    ensures loaded { Loads (cert_kind labels.now imp_states spec_states) (F.told files.old) (F.told files.new) name.now result }
     ensures keeps { KeepsFiles (F.told files.old) (F.told files.new) }
 {
-    match load_all(alloc, files, name, MOST_FILE_BYTES) {
+    let content = content(alloc, files, name, MOST_CERT_BYTES)?;
+    match read_cert(alloc, content.as_slice(), labels, imp_states, spec_states) {
+        Ok(cert) => Ok(cert),
+        Err(CertError::Memory) => Err(Stop::Memory),
+        Err(error) => Err(bad_file(alloc, name, FileError::Cert(error))),
+    }
+}
+
+/// The whole content of a file, which has at most so many bytes.
+fn content<F: Files>(alloc: Global, files: &mut F, name: &str, most: u64) -> Result<Text, Stop>
+    ensures loaded { MatchResult result (HasShortContent most (F.told files.old) name.now) (IsTooLong most (F.told files.old) (F.told files.new) name.now) }
+    ensures keeps { KeepsFiles (F.told files.old) (F.told files.new) }
+{
+    match load_all(alloc, files, name, most) {
         Ok(content) => Ok(content),
         Err(LoadError::Failed) => Err(file_fault(alloc, name)),
         Err(LoadError::TooLong) => Err(too_long(alloc, name)),
@@ -86,7 +138,7 @@ fn content<F: Files>(alloc: Global, files: &mut F, name: &str) -> Result<Text, S
     }
 }
 
-fn read_system(alloc: Global, content: &[u8]) -> Result<RawLts, AutError>
+fn read_aut(alloc: Global, content: &[u8]) -> Result<RawLts, AutError>
     requires { length content.now ≤ MOST_FILE_BYTES }
     ensures { MatchResult result (IsAutFile content.now) (RefusesAut content.now) }
 {

@@ -3,6 +3,8 @@ ghost use Rattle.std.specs.Prelude.{◌≡◌};
 ghost use Rattle.tool_base.specs.Pages.{stop_of};
 
 use aut_text::AutError;
+use cert_text::CertError;
+use graphml_text::GraphError;
 use lts_base::{Memory, SplitError, StateList, Text};
 use std::alloc::AllocError;
 use text_scan::LinesError;
@@ -13,8 +15,12 @@ use torx_words::{UsageKind, WordsError};
 pub enum FileError {
     /// It is no Aldebaran file.
     Aut(AutError),
+    /// It is no GraphML file.
+    Graph(GraphError),
     /// It lists no labels.
     Lines(LinesError),
+    /// It is no certificate.
+    Cert(CertError),
     /// It is no trace: this line, counted from 1, is no label of the alphabet nor `delta`.
     UnknownLabel(u32),
 }

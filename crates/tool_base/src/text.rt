@@ -1,13 +1,12 @@
 //! The texts of refusals, and the lines that texts are made of.
-ghost use Rattle.std.specs.Prelude.{◌≡◌, ◌++◌, ◌∷◌, [], OnOk, IfOk, codes, decimal, string_bytes};
+ghost use Rattle.std.specs.Prelude.{◌≡◌, ◌++◌, ◌∷◌, [], OnOk, IfOk, codes, decimal};
 ghost use Rattle.trace_text.specs.Lines.{line};
-ghost use Rattle.tool_base.specs.Texts.{kind_text, usage_text as text_of_usage, aut_error_text, list_error_text, error_text, labels_text, states_text, refusal_text as text_of_refusal};
+ghost use Rattle.tool_base.specs.Texts.{usage_text as text_of_usage, error_text, labels_text, states_text, refusal_text as text_of_refusal};
 
+use crate::error_text::file_error;
 use crate::refusal::{FileError, Refusal};
-use aut_text::AutError;
-use lts_base::{Listed, Memory, SplitError, Text};
+use lts_base::{Listed, SplitError, Text};
 use std::alloc::{AllocError, Global};
-use text_scan::LinesError;
 use torx_words::UsageKind;
 use trace_text::put_line;
 
@@ -94,56 +93,4 @@ fn bad_file(alloc: Global, name: &[u8], error: &FileError) -> Result<Text, Alloc
     text.extend_from_slice(name)?;
     put_line(&mut text, b" ", told.as_bytes())?;
     Ok(Listed::from_vec(text))
-}
-
-fn file_error(alloc: Global, error: &FileError) -> Result<String, AllocError>
-    ensures { IfOk result (λ text. string_bytes text ≡ error_text error.now) }
-{
-    match error {
-        FileError::Aut(error) => aut_error(alloc, error),
-        FileError::Lines(error) => list_error(alloc, error),
-        FileError::UnknownLabel(line) => at_line(alloc, "unknown-label ", *line),
-    }
-}
-
-fn list_error(alloc: Global, error: &LinesError) -> Result<String, AllocError>
-    ensures { IfOk result (λ text. string_bytes text ≡ list_error_text error.now) }
-{
-    match error {
-        LinesError::Line(line) => at_line(alloc, "line ", *line),
-        LinesError::LabelLong(line) => at_line(alloc, "label-long ", *line),
-        LinesError::NotUtf8(line) => at_line(alloc, "not-utf8 ", *line),
-        LinesError::Memory => Ok(String::new(alloc)),
-    }
-}
-
-fn aut_error(alloc: Global, error: &AutError) -> Result<String, AllocError>
-    ensures { IfOk result (λ text. string_bytes text ≡ aut_error_text error.now) }
-{
-    match error {
-        AutError::Header => String::from_str(alloc, "header"),
-        AutError::Line(line) => at_line(alloc, "line ", *line),
-        AutError::State(line) => at_line(alloc, "state ", *line),
-        AutError::Count { declared, found } => miscounted(alloc, *declared, *found),
-        AutError::LabelLong(line) => at_line(alloc, "label-long ", *line),
-        AutError::NotUtf8(line) => at_line(alloc, "not-utf8 ", *line),
-        AutError::TooManyStates => String::from_str(alloc, "too-many-states"),
-        AutError::TooManyMoves => String::from_str(alloc, "too-many-moves"),
-        AutError::Memory => Ok(String::new(alloc)),
-    }
-}
-
-fn at_line(alloc: Global, front: &str, line: u32) -> Result<String, AllocError>
-    ensures { IfOk result (λ text. string_bytes text ≡ front.now ++ decimal line) }
-{
-    format!(in alloc; "{front}{line}")
-}
-
-fn miscounted(alloc: Global, declared: u32, found: u32) -> Result<String, AllocError>
-    ensures { IfOk result (λ text. string_bytes text ≡ codes "count declared=" ++ (decimal declared ++ (codes " found=" ++ decimal found))) }
-{
-    let mut text = format!(in alloc; "count declared={declared}")?;
-    let rest = format!(in alloc; " found={found}")?;
-    text.push_str(rest.as_str())?;
-    Ok(text)
 }

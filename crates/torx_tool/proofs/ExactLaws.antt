@@ -13,18 +13,16 @@ use Rattle.tool_base.specs.declared.report.Report.{Report}
 use Rattle.tool_base.specs.Contents.{Contents, AreTold}
 use Rattle.tool_base.specs.Once.{IsOnce}
 use Rattle.tool_base.specs.Pages.{Page, Command, Answers, AnswersReading, IsFault, IsOnPage, IsUsage}
-use Rattle.cmd_check.specs.Check.{check_command}
 use Rattle.cmd_check.proofs.OnceLaws.{check_once}
-use Rattle.cmd_outs.specs.Outs.{outs_command}
+use Rattle.cmd_verify.proofs.OnceLaws.{verify_once}
 use Rattle.cmd_outs.proofs.OnceLaws.{outs_once}
-use Rattle.cmd_angelic.specs.Angelic.{angelic_command}
 use Rattle.cmd_angelic.proofs.OnceLaws.{angelic_once}
-use Rattle.torx_tool.specs.declared.name.Name.{Name}
-use Rattle.torx_tool.specs.declared.name.Name.TheVariants.{Check, Outs, Angelic}
+use Rattle.torx_tool.specs.declared.commands.Name.{Name}
+use Rattle.torx_tool.specs.declared.commands.Name.TheVariants.{Check, Verify, Outs, Angelic}
 use Rattle.torx_tool.specs.declared.status.Status.{Status}
 use Rattle.torx_tool.specs.declared.status.Status.TheVariants.{Usage}
-use Rattle.torx_tool.specs.Commands.{named}
-use Rattle.torx_tool.specs.Status.{check_status, outs_status, angelic_status, refusal_status, IsFailure}
+use Rattle.torx_tool.specs.Commands.{named, Row, row}
+use Rattle.torx_tool.specs.Status.{refusal_status, IsFailure}
 use Rattle.torx_tool.specs.Run.{no_memory, stop_report, report_of, IsReport, Reports, ReportsBy, IsReportOn, IsWritten}
 use Rattle.torx_tool.specs.Exact.{IsBut, IsRefusedBy, IsByPage, IsByCommand, IsByName, IsAnswered}
 
@@ -133,10 +131,15 @@ no_command : (kind : UsageKind) (report : Report Status) → IsReport (stop_repo
 no_command kind report (inl is) = inl (ap (λ (x : Report Status). x.outcome) is)
 no_command kind report (inr memory) = inr (memory_fails report memory)
 
+-- each command answers one thing for what it is asked for and the contents of its files
+row_once : (name : Name) (contents : Contents) (x : (row name).Asked) → AreTold contents ((row name).command.page contents x).names → IsOnce ((row name).command.page contents x)
+row_once Check contents x told = check_once contents x told
+row_once Verify contents x told = verify_once contents x told
+row_once Outs contents x told = outs_once contents x told
+row_once Angelic contents x told = angelic_once contents x told
+
 exact_name : (name : Option Name) (words : List (List ℕ)) (old new : ToldFiles) (report : Report Status) → ReportsBy name words old new report → IsByName name old.content words report.outcome
-exact_name (Some Check) words old new report h = exact check_command check_status words old new report (check_once old.content) h
-exact_name (Some Outs) words old new report h = exact outs_command outs_status words old new report (outs_once old.content) h
-exact_name (Some Angelic) words old new report h = exact angelic_command angelic_status words old new report (angelic_once old.content) h
+exact_name (Some name) words old new report h = exact (row name).command (row name).status words old new report (row_once name old.content) h
 exact_name None words old new report h = no_command UnknownCommand report h
 
 pub exact_report : (words : List (List ℕ)) (old new : ToldFiles) (report : Report Status) → IsReportOn words old new report → IsAnswered old.content words report.outcome
@@ -152,9 +155,7 @@ failed_command command status_of contents words status failure = record {
 }
 
 failed_name : (name : Option Name) (contents : Contents) (words : List (List ℕ)) (status : Status) → IsFailure status → IsByName name contents words status
-failed_name (Some Check) contents words status failure = failed_command check_command check_status contents words status failure
-failed_name (Some Outs) contents words status failure = failed_command outs_command outs_status contents words status failure
-failed_name (Some Angelic) contents words status failure = failed_command angelic_command angelic_status contents words status failure
+failed_name (Some name) contents words status failure = failed_command (row name).command (row name).status contents words status failure
 failed_name None contents words status failure = inr failure
 
 pub failed_answer : (words : List (List ℕ)) (contents : Contents) (status : Status) → IsFailure status → IsAnswered contents words status

@@ -16,17 +16,17 @@ use Rattle.conf_decide.specs.Decided.{IsDecided, IsPast}
 use Rattle.conf_decide.proofs.OnceLaws.{first_once}
 use Rattle.tool_base.specs.declared.report.Report.{Report}
 use Rattle.tool_base.specs.Contents.{Contents}
-use Rattle.tool_base.proofs.InputOnce.{systems_once, sources_apart}
+use Rattle.tool_base.proofs.InputOnce.{sources_apart}
 use Rattle.cmd_check.specs.declared.outcome.CheckOutcome.{CheckOutcome}
 use Rattle.cmd_check.specs.declared.outcome.CheckOutcome.TheVariants.{Conforms, Violates, Undecided, NotEnabled}
 use Rattle.cmd_check.specs.Asked.{AskedCheck, check_sources, limits_asked}
-use Rattle.cmd_check.specs.Check.{outcome_of, check_text, check_page, check_command, IsVerdict, AnswersCheck}
-use Rattle.cmd_check.proofs.OnceLaws.{lacking_unable, sound_pair}
-use Rattle.torx_tool.specs.declared.name.Name.{Name}
+use Rattle.cmd_check.specs.Check.{outcome_of, check_page, check_command, IsVerdict}
+use Rattle.cmd_check.proofs.OnceLaws.{lacking_unable, sound_pair, verdict_moved}
+use Rattle.torx_tool.specs.declared.commands.Name.{Name}
 use Rattle.torx_tool.specs.declared.status.Status.{Status}
 use Rattle.torx_tool.specs.Status.{check_status, IsFailure}
 use Rattle.torx_tool.specs.Run.{ReportsBy, IsReportOn, IsWritten}
-use Rattle.torx_tool.specs.Headline.{AskForCheck, IsComparable, HasRoom, HasRoomUpTo, IsCutBy, IsRight, Prints, IsSettled}
+use Rattle.torx_tool.specs.Headline.{AskForCheck, IsComparable, HasRoom, HasRoomUpTo, IsCutBy, IsRight, Tells, Prints, IsSettled}
 use Rattle.torx_tool.proofs.ExactLaws.{IsByReport, by_page}
 use Rattle.torx_tool.proofs.RoomLaws.{cut_up_to}
 
@@ -63,11 +63,15 @@ right_of q s i (Related relation) h = record { conforming = h.conforming; rows =
 right_of q s i (Broken trace shown) h = h.0
 right_of q s i (Cut what reached depth) h = h
 
+-- an outcome that is told is right
+right_told : (q : AskedCheck) (a : Alphabet) (s i : System) (outcome : CheckOutcome) (text : List ℕ) → Tells q a s i outcome text → IsRight q s i outcome
+right_told q a s i outcome text (answer, decided, is, told) = subst (IsRight q s i) (sym is) (right_of q s i answer decided)
+
 cut_is : (n m : ℕ) (what other : What) (d e : ℕ) → check_status (Undecided what n d) ≡ check_status (Undecided other m e) → (what ≡ other) × (n ≡ m) × (d ≡ e)
 cut_is n m what other d e is = (cc is, cc is, cc is)
 
 -- the right outcome, where it is answered and printed, settles the matter
-settled : (q : AskedCheck) (a : Alphabet) (s i : System) (outcome : CheckOutcome) (old new : ToldSink) (status : Status) → IsSystem s → IsSystem i → label_count i ≡ label_count s → IsRight q s i outcome → Prints a outcome old new status →
+settled : (q : AskedCheck) (a : Alphabet) (s i : System) (outcome : CheckOutcome) (old new : ToldSink) (status : Status) → IsSystem s → IsSystem i → label_count i ≡ label_count s → IsRight q s i outcome → Prints q a s i outcome old new status →
     IsSettled q a s i old new status
 settled q a s i (Conforms n) old new status spec imp same right prints = record {
   right = inl (Conforms n, right, prints);
@@ -84,7 +88,7 @@ settled q a s i (Violates trace shown) old new status spec imp same right prints
   violates = λ σ x first room.
       let once = first_once q.mode i s trace σ shown x imp same right first in
       let is : Violates trace shown ≡ Violates σ x = ap (λ τ. Violates τ shown) once.0 ∙ ap (Violates σ) once.1 in
-      inl (subst (λ (o : CheckOutcome). Prints a o old new status) is prints);
+      inl (subst (λ (o : CheckOutcome). Prints q a s i o old new status) is prints);
   cut = λ what reached depth is. absurd (no_trace what reached depth (sym prints.answer ∙ is));
 }
   where
@@ -99,14 +103,16 @@ settled q a s i (Undecided what reached depth) old new status spec imp same righ
 settled q a s i (NotEnabled name state input) old new status spec imp same right prints = absurd right
 
 -- what is written of a report on the right outcome
-printed : (q : AskedCheck) (a : Alphabet) (s i : System) (outcome : CheckOutcome) (report : Report Status) (old new : ToldSink) (status : Status) → IsSystem s → IsSystem i → label_count i ≡ label_count s → IsRight q s i outcome →
-    report ≡ record { outcome = check_status outcome; text = check_text a.texts outcome } → IsWritten report old new status → IsSettled q a s i old new status
-printed q a s i outcome report old new status spec imp same right is (inl (out, memory, none)) = failed q a s i old new status (subst IsFailure (sym memory) tt)
-printed q a s i outcome report old new status spec imp same right is (inr (some, inr (fault, fails, front))) = failed q a s i old new status (subst IsFailure (sym fault) tt)
-printed q a s i outcome report old new status spec imp same right is (inr (some, inl (due, appended))) =
-    settled q a s i outcome old new status spec imp same right (record {
+printed : (q : AskedCheck) (a : Alphabet) (s i : System) (outcome : CheckOutcome) (text : List ℕ) (report : Report Status) (old new : ToldSink) (status : Status) → IsSystem s → IsSystem i → label_count i ≡ label_count s → Tells q a s i outcome text →
+    report ≡ record { outcome = check_status outcome; text = text } → IsWritten report old new status → IsSettled q a s i old new status
+printed q a s i outcome text report old new status spec imp same tells is (inl (out, memory, none)) = failed q a s i old new status (subst IsFailure (sym memory) tt)
+printed q a s i outcome text report old new status spec imp same tells is (inr (some, inr (fault, fails, front))) = failed q a s i old new status (subst IsFailure (sym fault) tt)
+printed q a s i outcome text report old new status spec imp same tells is (inr (some, inl (due, appended))) =
+    settled q a s i outcome old new status spec imp same (right_told q a s i outcome text tells) (record {
       answer = due ∙ ap (λ (r : Report Status). r.outcome) is;
-      text = subst (λ (r : Report Status). AppendsTo old new r.text) is appended;
+      text = text;
+      tells = tells;
+      printed = subst (λ (r : Report Status). AppendsTo old new r.text) is appended;
     })
 
 -- what is written of a failure is one
@@ -115,35 +121,21 @@ written_failure report old new status failure (inl (out, memory, none)) = subst 
 written_failure report old new status failure (inr (some, inl (due, appended))) = subst IsFailure (sym due) failure
 written_failure report old new status failure (inr (some, inr (fault, fails, front))) = subst IsFailure (sym fault) tt
 
-first_is : (s i t j : System) → s ∷ i ∷ [] ≡ t ∷ j ∷ [] → s ≡ t
-first_is s i t j e = cc
-
-second_is : (s i t j : System) → s ∷ i ∷ [] ≡ t ∷ j ∷ [] → i ≡ j
-second_is s i t j e = cc
-
 -- what a report by the page of the two files settles
 by_report : (contents : Contents) (words : List (List ℕ)) (q : AskedCheck) (a : Alphabet) (s i : System) (report : Report Status) (old new : ToldSink) (status : Status) → IsComparable contents words q a s i → IsByReport (check_page contents q) check_status report →
     IsWritten report old new status → IsSettled q a s i old new status
 by_report contents words q a s i report old new status files (inl failure) written = failed q a s i old new status (written_failure report old new status failure written)
 by_report contents words q a s i report old new status files (inr (inl refusal)) written =
     absurd (sources_apart contents (check_sources q) refusal.refusal a (s ∷ i ∷ []) files.told refusal.refuses files.systems)
-by_report contents words q a s i report old new status files (inr (inr answer)) written = go answer.outcome answer.answers answer.is
+by_report contents words q a s i report old new status files (inr (inr answer)) written =
+    go (verdict_moved contents q answer.outcome answer.text a s i files.told answer.answers files.systems)
   where
     sound : IsSystem s × IsSystem i × (label_count i ≡ label_count s)
     sound = sound_pair contents q a s i files.systems
 
-    decided : (o : CheckOutcome) → IsVerdict q s i o → report ≡ record { outcome = check_status o; text = check_text a.texts o } → IsSettled q a s i old new status
-    decided o (inl lacks) is = absurd (lacking_unable q i o lacks files.able)
-    decided o (inr (able, (found, right, told))) is =
-        printed q a s i o report old new status sound.0 sound.1 sound.2 (subst (IsRight q s i) (sym told) (right_of q s i found right)) is written
-
-    go : (o : CheckOutcome) → AnswersCheck contents q o answer.text → report ≡ record { outcome = check_status o; text = answer.text } → IsSettled q a s i old new status
-    go o one is =
-        let same = systems_once contents (check_sources q) a one.a (s ∷ i ∷ []) (one.s ∷ one.i ∷ []) files.told files.systems one.systems in
-        let first : IsVerdict q s one.i o = subst (λ (z : System). IsVerdict q z one.i o) (first_is one.s one.i s i same.1) one.verdict in
-        let second : IsVerdict q s i o = subst (λ (z : System). IsVerdict q s z o) (second_is one.s one.i s i same.1) first in
-        let text : answer.text ≡ check_text a.texts o = one.told ∙ ap (λ (b : Alphabet). check_text b.texts o) same.0 in
-        decided o second (is ∙ ap (λ (t : List ℕ). record { outcome = check_status o; text = t }) text)
+    go : IsVerdict q a s i answer.outcome answer.text → IsSettled q a s i old new status
+    go (inl (lacks, text)) = absurd (lacking_unable q i answer.outcome lacks files.able)
+    go (inr (able, tells)) = printed q a s i answer.outcome answer.text report old new status sound.0 sound.1 sound.2 tells answer.is written
 
 -- the report on words that ask for `check`
 check_reported : (words : List (List ℕ)) (q : AskedCheck) (old new : ToldFiles) (report : Report Status) → AskForCheck words q → IsReportOn words old new report → IsByReport (check_page old.content q) check_status report

@@ -1,3 +1,4 @@
 mod RoomLaws
 mod ExactLaws
 mod HeadlineLaws
+mod AuditLaws

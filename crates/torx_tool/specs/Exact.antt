@@ -7,15 +7,11 @@ use Rattle.tool_base.specs.declared.refusal.Refusal.{Refusal}
 use Rattle.tool_base.specs.Contents.{Contents, AreTold}
 use Rattle.tool_base.specs.Once.{IsLike}
 use Rattle.tool_base.specs.Pages.{Page, Command}
-use Rattle.cmd_check.specs.Check.{check_command}
-use Rattle.cmd_outs.specs.Outs.{outs_command}
-use Rattle.cmd_angelic.specs.Angelic.{angelic_command}
-use Rattle.torx_tool.specs.declared.name.Name.{Name}
-use Rattle.torx_tool.specs.declared.name.Name.TheVariants.{Check, Outs, Angelic}
+use Rattle.torx_tool.specs.declared.commands.Name.{Name}
 use Rattle.torx_tool.specs.declared.status.Status.{Status}
 use Rattle.torx_tool.specs.declared.status.Status.TheVariants.{Usage}
-use Rattle.torx_tool.specs.Commands.{named}
-use Rattle.torx_tool.specs.Status.{check_status, outs_status, angelic_status, refusal_status, IsFailure}
+use Rattle.torx_tool.specs.Commands.{named, row}
+use Rattle.torx_tool.specs.Status.{refusal_status, IsFailure}
 
 -- the answer is this one, but for failures
 abbrev pub IsBut : Status → Status → Type 0
@@ -38,9 +34,7 @@ pub record IsByCommand {A O : Type 0} (command : Command A O) (status_of : O →
       IsByPage (command.page contents x) status_of status
 
 abbrev pub IsByName : Option Name → Contents → List (List ℕ) → Status → Type 0
-IsByName (Some Check) contents words status = IsByCommand check_command check_status contents words status
-IsByName (Some Outs) contents words status = IsByCommand outs_command outs_status contents words status
-IsByName (Some Angelic) contents words status = IsByCommand angelic_command angelic_status contents words status
+IsByName (Some name) contents words status = IsByCommand (row name).command (row name).status contents words status
 IsByName None contents words status = IsBut (Usage UnknownCommand) status
 
 -- the answer is the one that is due for the words and the contents of the files

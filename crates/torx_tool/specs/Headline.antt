@@ -8,15 +8,16 @@ use Rattle.lts_base.specs.Conformance.{IsConforming}
 use Rattle.lts_base.specs.Order.{IsAtMost, IsFirstViolation}
 use Rattle.lts_base.specs.Reached.{Row, trace_at, AreFirstPairs, AreReachedPairs, IsWithin}
 use Rattle.conf_decide.specs.declared.answer.What.{What}
-use Rattle.conf_decide.specs.Decided.{IsCut}
+use Rattle.conf_decide.specs.declared.answer.Answer.{Answer}
+use Rattle.conf_decide.specs.Decided.{IsCut, IsDecided}
 use Rattle.torx_words.specs.Accepted.{asked}
 use Rattle.tool_base.specs.Contents.{Contents, AreTold}
 use Rattle.tool_base.specs.Sources.{AreSystems, all_names}
 use Rattle.cmd_check.specs.declared.outcome.CheckOutcome.{CheckOutcome}
 use Rattle.cmd_check.specs.declared.outcome.CheckOutcome.TheVariants.{Conforms, Violates, Undecided}
 use Rattle.cmd_check.specs.Asked.{AskedCheck, check_shape, check_of, check_sources, limits_asked}
-use Rattle.cmd_check.specs.Check.{check_text, IsAble}
-use Rattle.torx_tool.specs.declared.name.Name.TheVariants.{Check}
+use Rattle.cmd_check.specs.Check.{outcome_of, answer_text, IsAble}
+use Rattle.torx_tool.specs.declared.commands.Name.TheVariants.{Check}
 use Rattle.torx_tool.specs.declared.status.Status.{Status}
 use Rattle.torx_tool.specs.Commands.{named}
 use Rattle.torx_tool.specs.Status.{check_status, IsFailure}
@@ -62,17 +63,26 @@ IsRight q s i (Violates σ x) = IsFirstViolation q.mode i s σ x
 IsRight q s i (Undecided what reached depth) = IsCutBy q s i what reached depth
 IsRight q s i other = ⊥
 
--- the answer is this outcome, and its text was printed
-pub record Prints (a : Alphabet) (outcome : CheckOutcome) (old new : ToldSink) (status : Status) : Type 0 where
+-- the text tells the outcome: it is the usual text, or under `--cert` that of the certificate of a right answer with this outcome
+abbrev pub Tells : AskedCheck → Alphabet → System → System → CheckOutcome → List ℕ → Type 0
+Tells q a s i outcome text = (answer : Answer) × IsDecided q.mode (limits_asked q) i s answer × (outcome ≡ outcome_of answer) ×
+    (text ≡ answer_text q a.texts answer)
+
+-- the answer is this outcome, and a text that tells it was printed
+pub record Prints (q : AskedCheck) (a : Alphabet) (s i : System) (outcome : CheckOutcome) (old new : ToldSink) (status : Status) : Type 0 where
   pub answer : status ≡ check_status outcome
-  pub text : AppendsTo old new (check_text a.texts outcome)
+  pub text : List ℕ
+  pub tells : Tells q a s i outcome text
+  pub printed : AppendsTo old new text
 
 -- but for failures, a right outcome is answered and printed; with room a system that conforms is found to; with room up to the first
 -- violation that is found
 pub record IsSettled (q : AskedCheck) (a : Alphabet) (s i : System) (old new : ToldSink) (status : Status) : Type 0 where
-  pub right : ((outcome : CheckOutcome) × IsRight q s i outcome × Prints a outcome old new status) ⊎ IsFailure status
-  pub conforms : IsConforming q.mode i s → HasRoom q s i → ((n : ℕ) × IsConformingBy q s i n × Prints a (Conforms n) old new status) ⊎ IsFailure status
-  pub violates : (σ : List Item) (x : Item) → IsFirstViolation q.mode i s σ x → HasRoomUpTo q s i σ → Prints a (Violates σ x) old new status ⊎ IsFailure status
+  pub right : ((outcome : CheckOutcome) × IsRight q s i outcome × Prints q a s i outcome old new status) ⊎ IsFailure status
+  pub conforms : IsConforming q.mode i s → HasRoom q s i →
+      ((n : ℕ) × IsConformingBy q s i n × Prints q a s i (Conforms n) old new status) ⊎ IsFailure status
+  pub violates : (σ : List Item) (x : Item) → IsFirstViolation q.mode i s σ x → HasRoomUpTo q s i σ →
+      Prints q a s i (Violates σ x) old new status ⊎ IsFailure status
   pub cut : (what : What) (reached depth : ℕ) → status ≡ check_status (Undecided what reached depth) → ¬ HasRoom q s i
 
 -- whichever two files can be compared, the answer settles the matter

@@ -1,6 +1,7 @@
-pub mod Commands
 pub mod Status
+pub mod Commands
 pub mod Run
 pub mod Exact
 pub mod Headline
+pub mod Audit
 pub mod Program

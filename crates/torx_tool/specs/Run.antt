@@ -7,15 +7,11 @@ use Rattle.tool_base.specs.declared.refusal.Stop.TheVariants.{Usage as BadWords,
 use Rattle.tool_base.specs.declared.report.Report.{Report}
 use Rattle.tool_base.specs.Pages.{Command, Answers}
 use Rattle.tool_base.specs.Texts.{usage_text, refusal_text}
-use Rattle.cmd_check.specs.Check.{check_command}
-use Rattle.cmd_outs.specs.Outs.{outs_command}
-use Rattle.cmd_angelic.specs.Angelic.{angelic_command}
-use Rattle.torx_tool.specs.declared.name.Name.{Name}
-use Rattle.torx_tool.specs.declared.name.Name.TheVariants.{Check, Outs, Angelic}
+use Rattle.torx_tool.specs.declared.commands.Name.{Name}
 use Rattle.torx_tool.specs.declared.status.Status.{Status}
 use Rattle.torx_tool.specs.declared.status.Status.TheVariants.{Usage, OutFault, Memory}
-use Rattle.torx_tool.specs.Commands.{named}
-use Rattle.torx_tool.specs.Status.{check_status, outs_status, angelic_status, refusal_status}
+use Rattle.torx_tool.specs.Commands.{named, row}
+use Rattle.torx_tool.specs.Status.{refusal_status}
 
 -- memory ran out, and nothing is printed
 abbrev pub no_memory : Report Status
@@ -42,9 +38,7 @@ Reports {O = O} command status words old new report =
     (result : Result (Report O) Stop) × Answers command words old new result × IsReport (report_of status result) report
 
 abbrev pub ReportsBy : Option Name → List (List ℕ) → ToldFiles → ToldFiles → Report Status → Type 0
-ReportsBy (Some Check) words old new report = Reports check_command check_status words old new report
-ReportsBy (Some Outs) words old new report = Reports outs_command outs_status words old new report
-ReportsBy (Some Angelic) words old new report = Reports angelic_command angelic_status words old new report
+ReportsBy (Some name) words old new report = Reports (row name).command (row name).status words old new report
 ReportsBy None words old new report = IsReport (stop_report (BadWords UnknownCommand)) report
 
 -- the report on all words

@@ -4,19 +4,23 @@ use Rattle.tool_base.specs.declared.refusal.Refusal.{Refusal}
 use Rattle.tool_base.specs.declared.refusal.Refusal.TheVariants.{TooLong as LongFile, BadFile as FaultyFile, BadLabels as FaultyLabels, Divergent as Diverging, FileFault as UnreadFile}
 use Rattle.cmd_check.specs.declared.outcome.CheckOutcome.{CheckOutcome}
 use Rattle.cmd_check.specs.declared.outcome.CheckOutcome.TheVariants.{Conforms as Conforming, Violates as Violating, Undecided as Cut, NotEnabled as Lacking}
+use Rattle.cmd_verify.specs.declared.outcome.VerifyOutcome.{VerifyOutcome}
+use Rattle.cmd_verify.specs.declared.outcome.VerifyOutcome.TheVariants.{Accepted as Verified, Rejected as Unverified}
 use Rattle.cmd_outs.specs.declared.outcome.OutsOutcome.{OutsOutcome}
 use Rattle.cmd_outs.specs.declared.outcome.OutsOutcome.TheVariants.{Printed as Offered, Absent as AbsentAt}
 use Rattle.cmd_angelic.specs.declared.outcome.AngelicOutcome.{AngelicOutcome}
 use Rattle.cmd_angelic.specs.declared.outcome.AngelicOutcome.TheVariants.{Printed as Completed, TooManyMoves}
 use Rattle.torx_tool.specs.declared.status.LimitWhat.TheVariants.{Moves}
 use Rattle.torx_tool.specs.declared.status.Status.{Status}
-use Rattle.torx_tool.specs.declared.status.Status.TheVariants.{Conforms, Violates, Undecided, Printed, Absent, Limit, Usage, TooLong, BadFile, BadLabels, Divergent, NotEnabled, FileFault, OutFault, Memory}
+use Rattle.torx_tool.specs.declared.status.Status.TheVariants.{Conforms, Violates, Undecided, Accepted, Rejected, Printed, Absent, Limit, Usage, TooLong, BadFile, BadLabels, Divergent, NotEnabled, FileFault, OutFault, Memory}
 
 -- the exit status of each answer
 abbrev pub code_of : Status → ℕ
 code_of (Conforms pairs) = 0
 code_of (Violates trace shown) = 1
 code_of (Undecided what reached depth) = 2
+code_of Accepted = 0
+code_of (Rejected why) = 1
 code_of Printed = 0
 code_of (Absent place) = 1
 code_of (Limit what reached) = 2
@@ -35,6 +39,10 @@ check_status (Conforming pairs) = Conforms pairs
 check_status (Violating trace shown) = Violates trace shown
 check_status (Cut what reached depth) = Undecided what reached depth
 check_status (Lacking name state input) = NotEnabled name state input
+
+abbrev pub verify_status : VerifyOutcome → Status
+verify_status Verified = Accepted
+verify_status (Unverified why) = Rejected why
 
 abbrev pub outs_status : OutsOutcome → Status
 outs_status Offered = Printed

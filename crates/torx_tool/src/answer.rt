@@ -1,14 +1,10 @@
 //! What is answered and printed, from the words and the files.
-ghost use Rattle.std.specs.Prelude.{◌≡◌, map, string_bytes, Some};
+ghost use Rattle.std.specs.Prelude.{◌≡◌, map, string_bytes};
 ghost use Rattle.edge_io.specs.Outside.{KeepsFiles};
-ghost use Rattle.torx_tool.specs.Run.{no_memory as report_of_no_memory, stop_report, report_of, IsReport, IsReportOn, ReportsBy};
-ghost use Rattle.torx_tool.specs.Status.{check_status as status_of_check, outs_status as status_of_outs, angelic_status as status_of_angelic};
+ghost use Rattle.torx_tool.specs.Run.{no_memory as report_of_no_memory, stop_report, IsReport, IsReportOn};
 
-use crate::name::{Name, command_named};
-use crate::status::{Status, angelic_status, check_status, outs_status, refusal_status};
-use cmd_angelic::{AngelicOutcome, angelic};
-use cmd_check::{CheckOutcome, check};
-use cmd_outs::{OutsOutcome, outs};
+use crate::commands::{command_named, command_report};
+use crate::status::{Status, refusal_status};
 use edge_io::Files;
 use lts_base::Listed;
 use std::alloc::Global;
@@ -29,61 +25,8 @@ pub fn answer<F: Files>(alloc: Global, words: &[String], files: &mut F) -> Repor
     }
 }
 
-/// The report of a command on the words after its name.
-fn command_report<F: Files>(
-    alloc: Global,
-    name: Name,
-    words: &[String],
-    files: &mut F,
-) -> Report<Status>
-    ensures report { ReportsBy (Some name) (map string_bytes words.now) (F.told files.old) (F.told files.new) result }
-    ensures keeps { KeepsFiles (F.told files.old) (F.told files.new) }
-{
-    match name {
-        Name::Check => check_report(alloc, check(alloc, files, words)),
-        Name::Outs => outs_report(alloc, outs(alloc, files, words)),
-        Name::Angelic => angelic_report(alloc, angelic(alloc, files, words)),
-    }
-}
-
-fn check_report(alloc: Global, answer: Result<Report<CheckOutcome>, Stop>) -> Report<Status>
-    ensures { IsReport (report_of status_of_check answer) result }
-{
-    match answer {
-        Ok(Report { outcome, text }) => Report {
-            outcome: check_status(outcome),
-            text,
-        },
-        Err(stop) => stopped(alloc, stop),
-    }
-}
-
-fn outs_report(alloc: Global, answer: Result<Report<OutsOutcome>, Stop>) -> Report<Status>
-    ensures { IsReport (report_of status_of_outs answer) result }
-{
-    match answer {
-        Ok(Report { outcome, text }) => Report {
-            outcome: outs_status(outcome),
-            text,
-        },
-        Err(stop) => stopped(alloc, stop),
-    }
-}
-
-fn angelic_report(alloc: Global, answer: Result<Report<AngelicOutcome>, Stop>) -> Report<Status>
-    ensures { IsReport (report_of status_of_angelic answer) result }
-{
-    match answer {
-        Ok(Report { outcome, text }) => Report {
-            outcome: angelic_status(outcome),
-            text,
-        },
-        Err(stop) => stopped(alloc, stop),
-    }
-}
-
 /// The report where the work stopped.
-fn stopped(alloc: Global, stop: Stop) -> Report<Status>
+pub fn stopped(alloc: Global, stop: Stop) -> Report<Status>
     ensures { IsReport (stop_report stop) result }
 {
     match stop {

@@ -2,7 +2,11 @@
 #![tactic(auto)]
 
 mod answer;
-mod name;
+#[cfg(test)]
+mod cert_tests;
+mod commands;
+#[cfg(test)]
+mod graph_tests;
 mod program;
 mod run;
 mod status;

@@ -4,6 +4,7 @@ ghost use Rattle.edge_io.specs.Outside.{KeepsFiles};
 ghost use Rattle.torx_tool.specs.Run.{IsRun, IsWritten};
 ghost use Rattle.torx_tool.specs.Exact.{IsAnswered};
 ghost use Rattle.torx_tool.specs.Headline.{IsHeadline};
+ghost use Rattle.torx_tool.specs.Audit.{IsAudited};
 
 use crate::answer::answer;
 use crate::status::Status;
@@ -16,6 +17,7 @@ pub fn run<F: Files, S: Sink>(alloc: Global, words: &[String], files: &mut F, ou
     ensures run { IsRun (map string_bytes words.now) (F.told files.old) (F.told files.new) (S.told out.old) (S.told out.new) result }
     ensures answered { IsAnswered (F.told files.old).content (map string_bytes words.now) result }
     ensures headline { IsHeadline (F.told files.old).content (map string_bytes words.now) (S.told out.old) (S.told out.new) result }
+    ensures audited { IsAudited (F.told files.old).content (map string_bytes words.now) result }
     ensures keeps { KeepsFiles (F.told files.old) (F.told files.new) }
 {
     let report = answer(alloc, words, files);

@@ -1,10 +1,13 @@
 //! The answers of the program, and their exit statuses.
 ghost use Rattle.std.specs.Prelude.{◌≡◌};
-ghost use Rattle.torx_tool.specs.Status.{code_of, check_status as status_of_check, outs_status as status_of_outs, angelic_status as status_of_angelic, refusal_status as status_of_refusal};
+ghost use Rattle.torx_tool.specs.declared.status.Status.{Status as TheStatus};
+ghost use Rattle.torx_tool.specs.Status.{code_of, check_status as status_of_check, verify_status as status_of_verify, outs_status as status_of_outs, angelic_status as status_of_angelic, refusal_status as status_of_refusal};
 
+use cert_check::Checked;
 use cmd_angelic::AngelicOutcome;
 use cmd_check::CheckOutcome;
 use cmd_outs::OutsOutcome;
+use cmd_verify::VerifyOutcome;
 use conf_decide::What;
 use lts_base::{Item, SplitError, StateList, Text, Trace};
 use tool_base::{FileError, Refusal};
@@ -40,6 +43,13 @@ pub enum Status {
         reached: u64,
         /// The length of the least trace at which it was passed.
         depth: u32,
+    },
+    /// The systems are as the certificate states.
+    Accepted,
+    /// They aren't, or the certificate doesn't show it.
+    Rejected {
+        /// The first reason.
+        why: Checked,
     },
     /// What was asked for was printed.
     Printed,
@@ -114,6 +124,8 @@ impl Status {
             Status::Conforms { .. } => 0,
             Status::Violates { .. } => 1,
             Status::Undecided { .. } => 2,
+            Status::Accepted => 0,
+            Status::Rejected { .. } => 1,
             Status::Printed => 0,
             Status::Absent { .. } => 1,
             Status::Limit { .. } => 2,
@@ -130,48 +142,71 @@ impl Status {
     }
 }
 
-/// The answer of `check`.
-pub fn check_status(outcome: CheckOutcome) -> Status
-    ensures { result ≡ status_of_check outcome }
-{
-    match outcome {
-        CheckOutcome::Conforms { pairs } => Status::Conforms { pairs },
-        CheckOutcome::Violates { trace, shown } => Status::Violates { trace, shown },
-        CheckOutcome::Undecided {
-            what,
-            reached,
-            depth,
-        } => Status::Undecided {
-            what,
-            reached,
-            depth,
-        },
-        CheckOutcome::NotEnabled { name, state, label } => {
-            Status::NotEnabled { name, state, label }
+/// An outcome of a command; `due` is the answer of the program that tells it.
+pub trait Outcome {
+    ghost due: { Self → TheStatus };
+
+    /// The answer.
+    fn status(self) -> Status
+        ensures { result ≡ due self };
+}
+
+impl Outcome for CheckOutcome {
+    ghost due = { status_of_check };
+
+    fn status(self) -> Status {
+        match self {
+            CheckOutcome::Conforms { pairs } => Status::Conforms { pairs },
+            CheckOutcome::Violates { trace, shown } => Status::Violates { trace, shown },
+            CheckOutcome::Undecided {
+                what,
+                reached,
+                depth,
+            } => Status::Undecided {
+                what,
+                reached,
+                depth,
+            },
+            CheckOutcome::NotEnabled { name, state, label } => {
+                Status::NotEnabled { name, state, label }
+            }
         }
     }
 }
 
-/// The answer of `outs`.
-pub fn outs_status(outcome: OutsOutcome) -> Status
-    ensures { result ≡ status_of_outs outcome }
-{
-    match outcome {
-        OutsOutcome::Printed => Status::Printed,
-        OutsOutcome::Absent { place } => Status::Absent { place },
+impl Outcome for VerifyOutcome {
+    ghost due = { status_of_verify };
+
+    fn status(self) -> Status {
+        match self {
+            VerifyOutcome::Accepted => Status::Accepted,
+            VerifyOutcome::Rejected { why } => Status::Rejected { why },
+        }
     }
 }
 
-/// The answer of `angelic`.
-pub fn angelic_status(outcome: AngelicOutcome) -> Status
-    ensures { result ≡ status_of_angelic outcome }
-{
-    match outcome {
-        AngelicOutcome::Printed => Status::Printed,
-        AngelicOutcome::TooManyMoves { reached } => Status::Limit {
-            what: LimitWhat::Moves,
-            reached,
-        },
+impl Outcome for OutsOutcome {
+    ghost due = { status_of_outs };
+
+    fn status(self) -> Status {
+        match self {
+            OutsOutcome::Printed => Status::Printed,
+            OutsOutcome::Absent { place } => Status::Absent { place },
+        }
+    }
+}
+
+impl Outcome for AngelicOutcome {
+    ghost due = { status_of_angelic };
+
+    fn status(self) -> Status {
+        match self {
+            AngelicOutcome::Printed => Status::Printed,
+            AngelicOutcome::TooManyMoves { reached } => Status::Limit {
+                what: LimitWhat::Moves,
+                reached,
+            },
+        }
     }
 }
 

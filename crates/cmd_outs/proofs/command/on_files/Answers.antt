@@ -1,6 +1,7 @@
 use Rattle.cmd_outs.specs.Asked.{request_from}
 use Rattle.cmd_outs.specs.Outs.{outs_page}
-use Rattle.cmd_outs.proofs.StopLaws.{stopped_on_page, trace_stopped}
+use Rattle.tool_base.proofs.CommandLaws.{stopped_on_page}
+use Rattle.cmd_outs.proofs.StopLaws.{trace_stopped}
 use Rattle.cmd_outs.proofs.command.on_files.Goals as goal
 
 pub returns-in_err-trace-clause-page : goal.returns-in_err-trace-clause-page

@@ -1,6 +1,6 @@
 use Rattle.std.proofs.Common.{◌≡◌, ℕ, ◌++◌, List, ap, ◌∙◌, arith}
 use Rattle.text_scan.proofs.LineLaws.{few_lines}
-use Rattle.tool_base.proofs.load.read_system.Goals as goal
+use Rattle.tool_base.proofs.load.read_aut.Goals as goal
 
 pub end-requires : goal.end-requires
 end-requires c =

@@ -1,0 +1,3 @@
+pub mod CheckLaws
+mod StopLaws
+pub mod OnceLaws

@@ -1,0 +1,3 @@
+pub mod Asked
+pub mod Verify
+pub mod Printable

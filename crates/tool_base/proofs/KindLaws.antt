@@ -1,0 +1,103 @@
+-- Each kind of files has one reading: a content is read as one value, or else it has one first fault.
+use Rattle.std.proofs.Common.{◌≡◌, ◌∙◌, ℕ, ◌<◌, ◌≤◌, ◌^◌, List, length, Ok, Err, inl, inr, ◌⊎◌, sym, ap, arith}
+use Rattle.std.proofs.lemmas.Bool.{cases_Bool}
+use Rattle.lts_base.specs.declared.limits.TheConstants.{MOST_CERT_BYTES}
+use Rattle.lts_base.specs.Alphabet.{Alphabet, IsAlphabet}
+use Rattle.text_scan.specs.Lines.{lines_of}
+use Rattle.text_scan.specs.Listing.{RefusesListing}
+use Rattle.text_scan.specs.declared.error.LinesError.{LinesError}
+use Rattle.text_scan.specs.declared.error.LinesError.TheVariants.{Memory as NoRoomForList}
+use Rattle.text_scan.proofs.LineLaws.{few_lines}
+use Rattle.text_scan.proofs.ListingOnce.{listing_only, refuses_only}
+use Rattle.aut_text.specs.Faults.{RefusesAut}
+use Rattle.aut_text.specs.declared.error.AutError.{AutError}
+use Rattle.aut_text.specs.declared.error.AutError.TheVariants.{Memory as NoRoomForFile}
+use Rattle.aut_text.proofs.OnceLaws.{aut_excludes}
+use Rattle.aut_text.proofs.RawOnce.{raw_once}
+use Rattle.aut_text.proofs.FaultLaws.{refuses_once}
+use Rattle.graphml_text.specs.Document.{RefusesGraphml}
+use Rattle.graphml_text.specs.declared.error.GraphError.{GraphError}
+use Rattle.graphml_text.specs.declared.error.GraphError.TheVariants.{Memory as NoRoomForGraph}
+use Rattle.graphml_text.proofs.ReadOnce.{graphml_excludes, raw_once as graph_once, refuses_once as graph_refuses_once}
+use Rattle.trace_text.proofs.OnceLaws.{trace_fine, fault_once, trace_once}
+use Rattle.cert_text.specs.declared.error.CertError.{CertError}
+use Rattle.cert_text.specs.declared.error.CertError.TheVariants.{Memory as NoRoomForCert}
+use Rattle.cert_text.specs.Faults.{RefusesCert}
+use Rattle.cert_text.proofs.AddingOnce.{IsSetting}
+use Rattle.cert_text.proofs.CertOnce.{cert_only, refuses_only as cert_refuses_only}
+use Rattle.tool_base.specs.declared.refusal.FileError.{FileError}
+use Rattle.tool_base.specs.declared.refusal.FileError.TheVariants.{Aut, Graph, Lines, Cert as Certified, UnknownLabel}
+use Rattle.tool_base.specs.Kinds.{Kind, IsFaultBy, aut_kind, graph_kind, is_graphml, system_kind, list_kind, trace_kind, cert_kind}
+use Rattle.tool_base.specs.Once.{IsKind}
+
+-- a reader that refuses a content for one thing, but for want of memory, tells one fault of it
+fault_by_once : {E : Type 0} (told : E → FileError) (memory : E) (refuses : List ℕ → E → Type 0) (c : List ℕ) (e f : FileError) →
+    ((x y : E) → refuses c x → refuses c y → ¬ (x ≡ memory) → ¬ (y ≡ memory) → x ≡ y) → IsFaultBy told memory refuses c e → IsFaultBy told memory refuses c f → e ≡ f
+fault_by_once told memory refuses c e f once (x, is, why, some) (y, also, for, some_too) = is ∙ ap told (once x y why for some some_too) ∙ sym also
+
+-- of two that are the same or the second is want of memory, where it isn't
+the_same : {E : Type 0} (x y memory : E) → (x ≡ y) ⊎ (x ≡ memory) → ¬ (x ≡ memory) → x ≡ y
+the_same x y memory (inl same) some = same
+the_same x y memory (inr none) some = absurd (some none)
+
+aut_fault : (c : List ℕ) (x y : AutError) → RefusesAut c x → RefusesAut c y → ¬ (x ≡ NoRoomForFile) → ¬ (y ≡ NoRoomForFile) → x ≡ y
+aut_fault c x y why for some some_too = elim (refuses_once c x y why for) [
+  | inl same ↦ same
+  | inr (inl none) ↦ absurd (some none)
+  | inr (inr none) ↦ absurd (some_too none)
+]
+
+aut_is_kind : IsKind aut_kind
+aut_is_kind = record {
+  once = λ c x y short one other. raw_once c x y one other;
+  fault = λ c e f short one other. fault_by_once Aut NoRoomForFile RefusesAut c e f (aut_fault c) one other;
+  apart = λ c x e short file fault. fault.3 (aut_excludes c x fault.0 file.file fault.2);
+}
+
+graph_fault : (c : List ℕ) (x y : GraphError) → RefusesGraphml c x → RefusesGraphml c y → ¬ (x ≡ NoRoomForGraph) → ¬ (y ≡ NoRoomForGraph) → x ≡ y
+graph_fault c x y why for some some_too = elim (graph_refuses_once c x y why for) [
+  | inl same ↦ same
+  | inr (inl none) ↦ absurd (some none)
+  | inr (inr none) ↦ absurd (some_too none)
+]
+
+graph_is_kind : IsKind graph_kind
+graph_is_kind = record {
+  once = λ c x y short one other. graph_once c x y one other;
+  fault = λ c e f short one other. fault_by_once Graph NoRoomForGraph RefusesGraphml c e f (graph_fault c) one other;
+  apart = λ c x e short file fault. fault.3 (graphml_excludes c x fault.0 file.file fault.2);
+}
+
+pub system_is_kind : (name : List ℕ) → IsKind (system_kind name)
+system_is_kind name = elim (cases_Bool (is_graphml name)) [ inl graph ↦ rw graph graph_is_kind | inr other ↦ rw other aut_is_kind ]
+
+list_fault : (c : List ℕ) (x y : LinesError) → RefusesListing c x → RefusesListing c y → ¬ (x ≡ NoRoomForList) → ¬ (y ≡ NoRoomForList) → x ≡ y
+list_fault c x y why for some some_too = the_same x y NoRoomForList (refuses_only c y (Err x) why for some_too) some
+
+pub list_is_kind : IsKind list_kind
+list_is_kind = record {
+  once = λ c x y short one other. one.texts ∙ sym other.texts;
+  fault = λ c e f short one other. fault_by_once Lines NoRoomForList RefusesListing c e f (list_fault c) one other;
+  apart = λ c labels e short is fault. fault.3 (listing_only c labels (Err fault.0) fault.2 is);
+}
+
+pub trace_is_kind : (a : Alphabet) → IsAlphabet a → IsKind (trace_kind a)
+trace_is_kind a alphabet = record {
+  once = λ c σ τ short one other. trace_once a c σ τ alphabet one other;
+  fault = λ c e f short one other. one.1 ∙ ap UnknownLabel (fault_once a c one.0 other.0 one.2 other.2) ∙ sym other.1;
+  apart = λ c σ e short is fault. trace_fine a c σ fault.0 is fault.2;
+}
+
+-- a certificate that isn't too long has few lines
+cert_lines : (c : List ℕ) → length c ≤ MOST_CERT_BYTES → length (lines_of c) < 2 ^ 32
+cert_lines c short = omega (arith, few_lines c, short)
+
+cert_fault : (a : Alphabet) (imp spec : ℕ) (c : List ℕ) (x y : CertError) → IsSetting a imp spec → length c ≤ MOST_CERT_BYTES → RefusesCert a imp spec c x → RefusesCert a imp spec c y → ¬ (x ≡ NoRoomForCert) → ¬ (y ≡ NoRoomForCert) → x ≡ y
+cert_fault a imp spec c x y set short why for some some_too = the_same x y NoRoomForCert (cert_refuses_only a imp spec c y (Err x) set (cert_lines c short) why for some_too) some
+
+pub cert_is_kind : (a : Alphabet) (imp spec : ℕ) → IsSetting a imp spec → IsKind (cert_kind a imp spec)
+cert_is_kind a imp spec set = record {
+  once = λ c x y short one other. cert_only a imp spec c y (Ok x) set (cert_lines c short) one other;
+  fault = λ c e f short one other. fault_by_once Certified NoRoomForCert (RefusesCert a imp spec) c e f (λ x y why for some some_too. cert_fault a imp spec c x y set short why for some some_too) one other;
+  apart = λ c x e short is fault. fault.3 (cert_only a imp spec c x (Err fault.0) set (cert_lines c short) fault.2 is);
+}

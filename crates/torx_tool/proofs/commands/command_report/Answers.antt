@@ -1,0 +1,13 @@
+use Rattle.torx_tool.proofs.commands.command_report.Goals as goal
+
+pub returns-in-Check-clause-report : goal.returns-in-Check-clause-report
+returns-in-Check-clause-report g c = rw c.in-Check.is (c.check.result, c.check.ensures.answers, c.reported.ensures)
+
+pub returns-in-Verify-clause-report : goal.returns-in-Verify-clause-report
+returns-in-Verify-clause-report g c = rw c.in-Verify.is (c.verify.result, c.verify.ensures.answers, c.reported-in-Verify.ensures)
+
+pub returns-in-Outs-clause-report : goal.returns-in-Outs-clause-report
+returns-in-Outs-clause-report g c = rw c.in-Outs.is (c.outs.result, c.outs.ensures.answers, c.reported-in-Outs.ensures)
+
+pub returns-in-Angelic-clause-report : goal.returns-in-Angelic-clause-report
+returns-in-Angelic-clause-report g c = rw c.in-Angelic.is (c.angelic.result, c.angelic.ensures.answers, c.reported-in-Angelic.ensures)

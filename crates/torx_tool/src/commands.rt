@@ -1,0 +1,76 @@
+//! The table of commands: their names, and what each answers.
+ghost use Rattle.std.specs.Prelude.{◌≡◌, map, string_bytes, Some};
+ghost use Rattle.edge_io.specs.Outside.{KeepsFiles};
+ghost use Rattle.torx_tool.specs.Commands.{named};
+ghost use Rattle.torx_tool.specs.Run.{report_of, IsReport, ReportsBy};
+
+use crate::answer::stopped;
+use crate::status::{Outcome, Status};
+use cmd_angelic::angelic;
+use cmd_check::check;
+use cmd_outs::outs;
+use cmd_verify::verify;
+use edge_io::Files;
+use std::alloc::Global;
+use tool_base::{Report, Stop};
+
+/// A command.
+#[derive(Clone, Copy, PartialEq, Eq, Debug)]
+pub enum Name {
+    /// `check`.
+    Check,
+    /// `verify`.
+    Verify,
+    /// `outs`.
+    Outs,
+    /// `angelic`.
+    Angelic,
+}
+
+/// The command of this name.
+pub fn command_named(word: &str) -> Option<Name>
+    ensures { result ≡ named word.now }
+{
+    if word == "check" {
+        Some(Name::Check)
+    } else if word == "verify" {
+        Some(Name::Verify)
+    } else if word == "outs" {
+        Some(Name::Outs)
+    } else if word == "angelic" {
+        Some(Name::Angelic)
+    } else {
+        None
+    }
+}
+
+/// The report of a command on the words after its name.
+pub fn command_report<F: Files>(
+    alloc: Global,
+    name: Name,
+    words: &[String],
+    files: &mut F,
+) -> Report<Status>
+    ensures report { ReportsBy (Some name) (map string_bytes words.now) (F.told files.old) (F.told files.new) result }
+    ensures keeps { KeepsFiles (F.told files.old) (F.told files.new) }
+{
+    match name {
+        Name::Check => reported(alloc, check(alloc, files, words)),
+        Name::Verify => reported(alloc, verify(alloc, files, words)),
+        Name::Outs => reported(alloc, outs(alloc, files, words)),
+        Name::Angelic => reported(alloc, angelic(alloc, files, words)),
+    }
+}
+
+/// The report of what a command answered.
+fn reported<O: Outcome>(alloc: Global, answer: Result<Report<O>, Stop>) -> Report<Status>
+    ensures { IsReport (report_of O.due answer) result }
+{
+    match answer {
+        Ok(Report { outcome, text }) => Report {
+            outcome: outcome.status(),
+            text,
+        },
+        Err(stop) => stopped(alloc, stop),
+    }
+}
