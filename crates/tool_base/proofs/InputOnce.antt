@@ -33,7 +33,7 @@ AreTold-right contents [] ys told = told
 AreTold-right contents (x ∷ xs) ys told = AreTold-right contents xs ys told.1
 
 -- a file that is told has one content
-content_once : (contents : Contents) (name : List ℕ) (told c d : List ℕ) → contents name ≡ Some told → HasContent contents name c → HasContent contents name d → c ≡ d
+pub content_once : (contents : Contents) (name : List ℕ) (told c d : List ℕ) → contents name ≡ Some told → HasContent contents name c → HasContent contents name d → c ≡ d
 content_once contents name told c d is one other =
     let first : c ≡ told = subst (λ (o : Option (List ℕ)). IfSome o (λ t. c ≡ t)) is one in
     let second : d ≡ told = subst (λ (o : Option (List ℕ)). IfSome o (λ t. d ≡ t)) is other in

@@ -1,7 +1,7 @@
 -- Each kind of files has one reading: a content is read as one value, or else it has one first fault.
-use Rattle.std.proofs.Common.{◌≡◌, ◌∙◌, ℕ, ◌<◌, ◌≤◌, ◌^◌, List, length, Ok, Err, inl, inr, ◌⊎◌, sym, ap, arith}
+use Rattle.std.proofs.Common.{◌≡◌, ◌∙◌, ℕ, ◌<◌, ◌≤◌, ◌^◌, List, length, Ok, Err, inl, inr, ◌⊎◌, refl, sym, ap, arith}
 use Rattle.std.proofs.lemmas.Bool.{cases_Bool}
-use Rattle.lts_base.specs.declared.limits.TheConstants.{MOST_CERT_BYTES}
+use Rattle.lts_base.specs.declared.limits.TheConstants.{MOST_CERT_BYTES, MOST_FILE_BYTES}
 use Rattle.lts_base.specs.Alphabet.{Alphabet, IsAlphabet}
 use Rattle.text_scan.specs.Lines.{lines_of}
 use Rattle.text_scan.specs.Listing.{RefusesListing}
@@ -25,9 +25,13 @@ use Rattle.cert_text.specs.declared.error.CertError.TheVariants.{Memory as NoRoo
 use Rattle.cert_text.specs.Faults.{RefusesCert}
 use Rattle.cert_text.proofs.AddingOnce.{IsSetting}
 use Rattle.cert_text.proofs.CertOnce.{cert_only, refuses_only as cert_refuses_only}
+use Rattle.log_text.specs.declared.error.LogError.{LogError}
+use Rattle.log_text.specs.declared.error.LogError.TheVariants.{Memory as NoRoomForLogs}
+use Rattle.log_text.specs.Faults.{RefusesLogs}
+use Rattle.log_text.proofs.LogsOnce.{logs_exclude, logs_once, fault_once as logs_fault_once}
 use Rattle.tool_base.specs.declared.refusal.FileError.{FileError}
-use Rattle.tool_base.specs.declared.refusal.FileError.TheVariants.{Aut, Graph, Lines, Cert as Certified, UnknownLabel}
-use Rattle.tool_base.specs.Kinds.{Kind, IsFaultBy, aut_kind, graph_kind, is_graphml, system_kind, list_kind, trace_kind, cert_kind}
+use Rattle.tool_base.specs.declared.refusal.FileError.TheVariants.{Aut, Graph, Lines, Cert as Certified, Logs, UnknownLabel}
+use Rattle.tool_base.specs.Kinds.{Kind, IsFaultBy, aut_kind, graph_kind, is_graphml, system_kind, list_kind, trace_kind, cert_kind, logs_kind}
 use Rattle.tool_base.specs.Once.{IsKind}
 
 -- a reader that refuses a content for one thing, but for want of memory, tells one fault of it
@@ -101,3 +105,21 @@ cert_is_kind a imp spec set = record {
   fault = λ c e f short one other. fault_by_once Certified NoRoomForCert (RefusesCert a imp spec) c e f (λ x y why for some some_too. cert_fault a imp spec c x y set short why for some some_too) one other;
   apart = λ c x e short is fault. fault.3 (cert_only a imp spec c x (Err fault.0) set (cert_lines c short) fault.2 is);
 }
+
+logs_fault : (c : List ℕ) (x y : LogError) → RefusesLogs c x → RefusesLogs c y → ¬ (x ≡ NoRoomForLogs) → ¬ (y ≡ NoRoomForLogs) → x ≡ y
+logs_fault c x y why for some some_too = elim (logs_fault_once c x y why for) [
+  | inl same ↦ same
+  | inr (inl none) ↦ absurd (some none)
+  | inr (inr none) ↦ absurd (some_too none)
+]
+
+pub logs_is_kind : IsKind logs_kind
+logs_is_kind = record {
+  once = λ c x y short one other. logs_once c x y one other;
+  fault = λ c e f short one other. fault_by_once Logs NoRoomForLogs RefusesLogs c e f (logs_fault c) one other;
+  apart = λ c x e short is fault. fault.3 (logs_exclude c x fault.0 is fault.2);
+}
+
+-- a system's file has a limit of its own kind, which is one for all
+pub system_most : (name : List ℕ) → (system_kind name).most ≡ MOST_FILE_BYTES
+system_most name = elim (cases_Bool (is_graphml name)) [ inl graph ↦ rw graph refl | inr other ↦ rw other refl ]

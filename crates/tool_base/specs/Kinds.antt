@@ -17,8 +17,14 @@ use Rattle.cert_text.specs.declared.cert.Cert.{Cert}
 use Rattle.cert_text.specs.declared.error.CertError.TheVariants.{Memory as NoRoomForCert}
 use Rattle.cert_text.specs.Certificate.{IsCertOf}
 use Rattle.cert_text.specs.Faults.{RefusesCert}
+use Rattle.log_text.specs.declared.log.Digest.{Digest}
+use Rattle.log_text.specs.declared.log.Named.{Named}
+use Rattle.log_text.specs.declared.error.LogError.TheVariants.{Memory as NoRoomForLogs}
+use Rattle.log_text.specs.Logs.{IsDigest, AreLogsOf}
+use Rattle.log_text.specs.Faults.{RefusesLogs}
+use Rattle.sha2.specs.Sha256.{sha256}
 use Rattle.tool_base.specs.declared.refusal.FileError.{FileError}
-use Rattle.tool_base.specs.declared.refusal.FileError.TheVariants.{Aut, Graph, Lines, Cert as Certified, UnknownLabel}
+use Rattle.tool_base.specs.declared.refusal.FileError.TheVariants.{Aut, Graph, Lines, Cert as Certified, Logs, UnknownLabel}
 use Rattle.tool_base.specs.declared.refusal.Refusal.{Refusal}
 use Rattle.tool_base.specs.declared.refusal.Refusal.TheVariants.{TooLong, BadFile}
 use Rattle.tool_base.specs.Contents.{Contents, HasContent}
@@ -95,3 +101,14 @@ trace_kind a = record { most = MOST_FILE_BYTES; reads = IsTrace a; faulty = IsFa
 -- certificates over an alphabet, of an implementation and a specification with so many states
 abbrev pub cert_kind : Alphabet → ℕ → ℕ → Kind Cert
 cert_kind a imp spec = record { most = MOST_CERT_BYTES; reads = IsCertOf a imp spec; faulty = IsFaultBy Certified NoRoomForCert (RefusesCert a imp spec) }
+
+-- files of logs of sessions
+abbrev pub logs_kind : Kind (List Named)
+logs_kind = record { most = MOST_FILE_BYTES; reads = AreLogsOf; faulty = IsFaultBy Logs NoRoomForLogs RefusesLogs }
+
+-- the digest is that of the content of the file of this name
+pub record IsDigestOfFile (contents : Contents) (name : List ℕ) (digest : Digest) : Type 0 where
+  pub content : List ℕ
+  pub has : HasContent contents name content
+  pub is : digest.0 ≡ sha256 content
+  pub sound : IsDigest digest

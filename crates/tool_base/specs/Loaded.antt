@@ -9,6 +9,8 @@ use Rattle.torx_words.specs.declared.asked.Sorting.{Sorting}
 use Rattle.torx_words.specs.Named.{sorting_from}
 use Rattle.tool_base.specs.declared.refusal.Stop.{Stop}
 use Rattle.tool_base.specs.declared.systems.OneSystem.{OneSystem}
+use Rattle.tool_base.specs.declared.systems.DigestedSystem.{DigestedSystem}
+use Rattle.tool_base.specs.Kinds.{IsDigestOfFile}
 use Rattle.tool_base.specs.declared.systems.TwoSystems.{TwoSystems}
 use Rattle.tool_base.specs.Sources.{Sources, AreSystems, RefusesSources, all_names}
 use Rattle.tool_base.specs.Pages.{IsStopped}
@@ -32,6 +34,12 @@ abbrev pub LoadsTwo : ToldFiles → ToldFiles → Sources → Result TwoSystems 
 LoadsTwo old new sources result =
     MatchResult result (λ s. AreSystems old.content sources s.labels (s.first ∷ s.second ∷ [])) (IsStopped old new (all_names sources) (RefusesSources old.content sources))
 
+-- the system of a file, over its alphabet, and the digest of the file
+abbrev pub LoadsDigestedSystem : ToldFiles → ToldFiles → Sources → List ℕ → Result DigestedSystem Stop → Type 0
+LoadsDigestedSystem old new sources name result =
+    MatchResult result (λ s. AreSystems old.content sources s.labels (s.system ∷ []) × IsDigestOfFile old.content name s.digest)
+    (IsStopped old new (all_names sources) (RefusesSources old.content sources))
+
 -- the system is sound, and over the alphabet
 pub record IsOneOver (s : OneSystem) : Type 0 where
   pub alphabet : IsAlphabet s.labels
@@ -45,3 +53,6 @@ pub record AreTwoOver (s : TwoSystems) : Type 0 where
   pub second_sound : IsSystem s.second
   pub first_over : IsOver s.labels s.first
   pub second_over : IsOver s.labels s.second
+
+abbrev pub IsDigestedOver : DigestedSystem → Type 0
+IsDigestedOver s = IsOneOver (record { labels = s.labels; system = s.system })

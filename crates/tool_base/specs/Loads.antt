@@ -1,12 +1,14 @@
 -- Promise: what loading a file answers.
 use Rattle.std.specs.Prelude.{◌≡◌, ℕ, ◌≤◌, List, [], ◌∷◌, length, ◌⊎◌, Result, MatchResult}
 use Rattle.edge_io.specs.Outside.{ToldFiles}
+use Rattle.lts_base.specs.Raw.{RawSystem}
+use Rattle.log_text.specs.declared.log.Digest.{Digest}
 use Rattle.tool_base.specs.declared.refusal.Refusal.{Refusal}
-use Rattle.tool_base.specs.declared.refusal.Refusal.TheVariants.{TooLong}
+use Rattle.tool_base.specs.declared.refusal.Refusal.TheVariants.{TooLong, BadFile}
 use Rattle.tool_base.specs.declared.refusal.Stop.{Stop}
 use Rattle.tool_base.specs.declared.refusal.Stop.TheVariants.{Refused, Memory}
 use Rattle.tool_base.specs.Contents.{HasContent}
-use Rattle.tool_base.specs.Kinds.{Kind, IsFile, IsLong, RefusesFile}
+use Rattle.tool_base.specs.Kinds.{Kind, IsFile, IsLong, RefusesFile, IsDigestOfFile, system_kind}
 use Rattle.tool_base.specs.Pages.{IsStopped}
 
 -- the file of this name is read as one of the kind, or refused
@@ -28,3 +30,17 @@ IsTooLong most old new name stop = IsStopped old new (name ∷ []) (IsLongBy mos
 -- memory ran out, or it is stopped by this refusal
 abbrev pub IsStopBy : Refusal → Stop → Type 0
 IsStopBy r stop = (stop ≡ Memory) ⊎ (stop ≡ Refused r)
+
+-- the content, which is that of the file of this name, is read as one of the kind, or refused; or memory ran out
+abbrev pub IsStopFor : {X : Type 0} → Kind X → List ℕ → List ℕ → Stop → Type 0
+IsStopFor kind name content (Refused (BadFile named error)) = (named ≡ name) × kind.faulty content error
+IsStopFor kind name content Memory = Unit {0}
+IsStopFor kind name content other = ⊥
+
+abbrev pub ReadsAs : {X : Type 0} → Kind X → List ℕ → List ℕ → Result X Stop → Type 0
+ReadsAs kind name content result = MatchResult result (kind.reads content) (IsStopFor kind name content)
+
+-- the system of the file of this name and the digest of its content are had, or the work stopped
+abbrev pub LoadsDigested : ToldFiles → ToldFiles → List ℕ → Result (RawSystem × Digest) Stop → Type 0
+LoadsDigested old new name result = MatchResult result (λ r. IsFile (system_kind name) old.content name r.0 × IsDigestOfFile old.content name r.1)
+    (IsStopped old new (name ∷ []) (RefusesFile (system_kind name) old.content name))

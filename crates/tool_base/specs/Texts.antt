@@ -11,11 +11,13 @@ use Rattle.graphml_text.specs.declared.error.GraphError.{GraphError}
 use Rattle.graphml_text.specs.declared.error.GraphError.TheVariants.{Malformed, Doctype, Encoding, NotUtf8 as GraphNotUtf8, NoGraph, SecondGraph, Undirected, Hyperedge, Port, DoubleNode, UnknownNode, NoLabel, LabelLong as GraphLabelLong, TooDeep, TooManyStates as GraphTooManyStates, TooManyMoves as GraphTooManyMoves, Memory as NoRoomForGraph}
 use Rattle.cert_text.specs.declared.error.CertError.{CertError}
 use Rattle.cert_text.specs.declared.error.CertError.TheVariants.{Line as CertLine, Cut as CertCut, UnknownLabel as CertUnknown, StateRange as CertRange, Memory as NoRoomForCert}
+use Rattle.log_text.specs.declared.error.LogError.{LogError}
+use Rattle.log_text.specs.declared.error.LogError.TheVariants.{Version as LogVersion, Line as LogLine, Cut as LogCut, Memory as NoRoomForLogs}
 use Rattle.torx_words.specs.declared.kind.UsageKind.{UsageKind}
 use Rattle.torx_words.specs.declared.kind.UsageKind.TheVariants.{NoCommand, UnknownCommand, Words, Value, Clash}
 use Rattle.trace_text.specs.Lines.{line}
 use Rattle.tool_base.specs.declared.refusal.FileError.{FileError}
-use Rattle.tool_base.specs.declared.refusal.FileError.TheVariants.{Aut, Graph, Lines, Cert as Certified, UnknownLabel}
+use Rattle.tool_base.specs.declared.refusal.FileError.TheVariants.{Aut, Graph, Lines, Cert as Certified, Logs, OtherSpec, OtherDivergence, UnknownLabel}
 use Rattle.tool_base.specs.declared.refusal.Refusal.{Refusal}
 use Rattle.tool_base.specs.declared.refusal.Refusal.TheVariants.{TooLong, BadFile, BadLabels, Divergent, FileFault}
 
@@ -76,11 +78,20 @@ cert_error_text (CertUnknown n) = codes "unknown-label " ++ decimal n
 cert_error_text (CertRange n) = codes "state-range " ++ decimal n
 cert_error_text NoRoomForCert = []
 
+abbrev pub log_error_text : LogError → List ℕ
+log_error_text LogVersion = codes "version"
+log_error_text (LogLine n) = codes "line " ++ decimal n
+log_error_text LogCut = codes "cut"
+log_error_text NoRoomForLogs = []
+
 abbrev pub error_text : FileError → List ℕ
 error_text (Aut error) = aut_error_text error
 error_text (Graph error) = graph_error_text error
 error_text (Lines error) = list_error_text error
 error_text (Certified error) = cert_error_text error
+error_text (Logs error) = log_error_text error
+error_text (OtherSpec n) = codes "other-spec " ++ decimal n
+error_text (OtherDivergence n) = codes "other-divergence " ++ decimal n
 error_text (UnknownLabel n) = codes "unknown-label " ++ decimal n
 
 abbrev pub labels_text : SplitError → List ℕ

@@ -1,11 +1,12 @@
 //! The texts of the faults of files.
 ghost use Rattle.std.specs.Prelude.{◌≡◌, ◌++◌, IfOk, codes, decimal, string_bytes};
-ghost use Rattle.tool_base.specs.Texts.{aut_error_text, graph_error_text, at_offset as offset_text, list_error_text, cert_error_text, error_text};
+ghost use Rattle.tool_base.specs.Texts.{aut_error_text, graph_error_text, at_offset as offset_text, list_error_text, cert_error_text, log_error_text, error_text};
 
 use crate::refusal::FileError;
 use aut_text::AutError;
 use cert_text::CertError;
 use graphml_text::GraphError;
+use log_text::LogError;
 use std::alloc::{AllocError, Global};
 use text_scan::LinesError;
 
@@ -18,6 +19,9 @@ pub(crate) fn file_error(alloc: Global, error: &FileError) -> Result<String, All
         FileError::Graph(error) => graph_error(alloc, error),
         FileError::Lines(error) => list_error(alloc, error),
         FileError::Cert(error) => cert_error(alloc, error),
+        FileError::Logs(error) => log_error(alloc, error),
+        FileError::OtherSpec(log) => at_line(alloc, "other-spec ", *log),
+        FileError::OtherDivergence(log) => at_line(alloc, "other-divergence ", *log),
         FileError::UnknownLabel(line) => at_line(alloc, "unknown-label ", *line),
     }
 }
@@ -88,6 +92,17 @@ fn cert_error(alloc: Global, error: &CertError) -> Result<String, AllocError>
         CertError::UnknownLabel(line) => at_line(alloc, "unknown-label ", *line),
         CertError::StateRange(line) => at_line(alloc, "state-range ", *line),
         CertError::Memory => Ok(String::new(alloc)),
+    }
+}
+
+fn log_error(alloc: Global, error: &LogError) -> Result<String, AllocError>
+    ensures { IfOk result (λ text. string_bytes text ≡ log_error_text error.now) }
+{
+    match error {
+        LogError::Version => String::from_str(alloc, "version"),
+        LogError::Line(line) => at_line(alloc, "line ", *line),
+        LogError::Cut => String::from_str(alloc, "cut"),
+        LogError::Memory => Ok(String::new(alloc)),
     }
 }
 

@@ -12,9 +12,11 @@ mod sources;
 mod systems;
 mod text;
 
-pub use load::{load_cert, load_trace, loaded_name};
+pub use load::{bad_file, load_cert, load_logs, load_trace, loaded_name};
 pub use refusal::{FileError, Refusal, Stop, words_stop};
 pub use report::Report;
 pub use sources::Sources;
-pub use systems::{OneSystem, TwoSystems, one_system, two_systems};
+pub use systems::{
+    DigestedSystem, OneSystem, TwoSystems, digested_system, one_system, two_systems,
+};
 pub use text::{one_line, put_number, put_states, refusal_text, usage_text};

@@ -6,14 +6,15 @@ ghost use Rattle.text_scan.specs.Listing.{IsListing, RefusesListing};
 ghost use Rattle.aut_text.specs.Grammar.{IsAutFile};
 ghost use Rattle.aut_text.specs.Faults.{RefusesAut};
 ghost use Rattle.trace_text.specs.Items.{IsItem};
-ghost use Rattle.tool_base.specs.Kinds.{aut_kind, graph_kind, is_graphml as names_graphml, system_kind, list_kind, trace_kind, cert_kind};
-ghost use Rattle.tool_base.specs.Loads.{Loads, IsTooLong, HasShortContent, IsStopBy};
+ghost use Rattle.tool_base.specs.Kinds.{aut_kind, graph_kind, is_graphml as names_graphml, system_kind, list_kind, trace_kind, cert_kind, logs_kind};
+ghost use Rattle.tool_base.specs.Loads.{Loads, LoadsDigested, ReadsAs, IsTooLong, HasShortContent, IsStopBy};
 
 use crate::refusal::{FileError, Refusal, Stop};
 use aut_text::{AutError, AutReader};
 use cert_text::{Cert, CertError, read_cert};
 use edge_io::{Files, LoadError, load_all};
 use graphml_text::{GraphError, read_graphml};
+use log_text::{Digest, LogError, Logs, digest_of, read_logs};
 use lts_base::limits::{MOST_CERT_BYTES, MOST_FILE_BYTES};
 use lts_base::{Labels, Listed, Memory, PackedTexts, RawLts, Text, Trace};
 use std::alloc::Global;
@@ -29,10 +30,34 @@ pub(crate) fn load_system<F: Files>(
     ensures loaded { Loads (system_kind name.now) (F.told files.old) (F.told files.new) name.now result }
     ensures keeps { KeepsFiles (F.told files.old) (F.told files.new) }
 {
+    let content = content(alloc, files, name, MOST_FILE_BYTES)?;
+    read_system(alloc, name, content.as_slice())
+}
+
+/// The system of a file, and the digest of the bytes that it was read from.
+pub(crate) fn load_digested<F: Files>(
+    alloc: Global,
+    files: &mut F,
+    name: &str,
+) -> Result<(RawLts, Digest), Stop>
+    ensures loaded { LoadsDigested (F.told files.old) (F.told files.new) name.now result }
+    ensures keeps { KeepsFiles (F.told files.old) (F.told files.new) }
+{
+    let content = content(alloc, files, name, MOST_FILE_BYTES)?;
+    let raw = read_system(alloc, name, content.as_slice())?;
+    let digest = digest_of(content.as_slice());
+    Ok((raw, digest))
+}
+
+/// The system of a content, which is read by the name of its file.
+fn read_system(alloc: Global, name: &str, content: &[u8]) -> Result<RawLts, Stop>
+    requires { length content.now ≤ MOST_FILE_BYTES }
+    ensures { ReadsAs (system_kind name.now) name.now content.now result }
+{
     if is_graphml(name) {
-        load_graph(alloc, files, name)
+        read_drawn(alloc, name, content)
     } else {
-        load_aut(alloc, files, name)
+        read_written(alloc, name, content)
     }
 }
 
@@ -43,24 +68,21 @@ fn is_graphml(name: &str) -> bool
     name.as_bytes().ends_with(b".graphml")
 }
 
-fn load_graph<F: Files>(alloc: Global, files: &mut F, name: &str) -> Result<RawLts, Stop>
-    ensures loaded { Loads graph_kind (F.told files.old) (F.told files.new) name.now result }
-    ensures keeps { KeepsFiles (F.told files.old) (F.told files.new) }
+fn read_drawn(alloc: Global, name: &str, content: &[u8]) -> Result<RawLts, Stop>
+    ensures { ReadsAs graph_kind name.now content.now result }
 {
-    let content = content(alloc, files, name, MOST_FILE_BYTES)?;
-    match read_graphml(alloc, content.as_slice()) {
+    match read_graphml(alloc, content) {
         Ok(raw) => Ok(raw),
         Err(GraphError::Memory) => Err(Stop::Memory),
         Err(error) => Err(bad_file(alloc, name, FileError::Graph(error))),
     }
 }
 
-fn load_aut<F: Files>(alloc: Global, files: &mut F, name: &str) -> Result<RawLts, Stop>
-    ensures loaded { Loads aut_kind (F.told files.old) (F.told files.new) name.now result }
-    ensures keeps { KeepsFiles (F.told files.old) (F.told files.new) }
+fn read_written(alloc: Global, name: &str, content: &[u8]) -> Result<RawLts, Stop>
+    requires { length content.now ≤ MOST_FILE_BYTES }
+    ensures { ReadsAs aut_kind name.now content.now result }
 {
-    let content = content(alloc, files, name, MOST_FILE_BYTES)?;
-    match read_aut(alloc, content.as_slice()) {
+    match read_aut(alloc, content) {
         Ok(raw) => Ok(raw),
         Err(AutError::Memory) => Err(Stop::Memory),
         Err(error) => Err(bad_file(alloc, name, FileError::Aut(error))),
@@ -125,6 +147,20 @@ pub fn load_cert<F: Files>(
     }
 }
 
+/// The logs of a file.
+pub fn load_logs<F: Files>(alloc: Global, files: &mut F, name: &str) -> Result<Logs, Stop>
+    ensures loaded { Loads logs_kind (F.told files.old) (F.told files.new) name.now result }
+    ensures few { IfOk result (λ logs. length logs ≤ MOST_FILE_BYTES) }
+    ensures keeps { KeepsFiles (F.told files.old) (F.told files.new) }
+{
+    let content = content(alloc, files, name, MOST_FILE_BYTES)?;
+    match read_logs(alloc, content.as_slice()) {
+        Ok(logs) => Ok(logs),
+        Err(LogError::Memory) => Err(Stop::Memory),
+        Err(error) => Err(bad_file(alloc, name, FileError::Logs(error))),
+    }
+}
+
 /// The whole content of a file, which has at most so many bytes.
 fn content<F: Files>(alloc: Global, files: &mut F, name: &str, most: u64) -> Result<Text, Stop>
     ensures loaded { MatchResult result (HasShortContent most (F.told files.old) name.now) (IsTooLong most (F.told files.old) (F.told files.new) name.now) }
@@ -179,7 +215,8 @@ fn too_long(alloc: Global, name: &str) -> Stop
     }
 }
 
-fn bad_file(alloc: Global, name: &str, error: FileError) -> Stop
+/// What stops the work where a file isn't in its grammar.
+pub fn bad_file(alloc: Global, name: &str, error: FileError) -> Stop
     ensures { IsStopBy (Refusal.BadFile name.now error) result }
 {
     match loaded_name(alloc, name) {

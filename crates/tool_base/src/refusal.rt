@@ -5,6 +5,7 @@ ghost use Rattle.tool_base.specs.Pages.{stop_of};
 use aut_text::AutError;
 use cert_text::CertError;
 use graphml_text::GraphError;
+use log_text::LogError;
 use lts_base::{Memory, SplitError, StateList, Text};
 use std::alloc::AllocError;
 use text_scan::LinesError;
@@ -21,6 +22,12 @@ pub enum FileError {
     Lines(LinesError),
     /// It is no certificate.
     Cert(CertError),
+    /// It is no file of logs.
+    Logs(LogError),
+    /// This log, counted from 1, is of another specification, by its digest.
+    OtherSpec(u32),
+    /// This log, counted from 1, tells another reading of cycles of internal moves.
+    OtherDivergence(u32),
     /// It is no trace: this line, counted from 1, is no label of the alphabet nor `delta`.
     UnknownLabel(u32),
 }

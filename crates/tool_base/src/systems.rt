@@ -4,15 +4,17 @@ ghost use Rattle.edge_io.specs.Outside.{KeepsFiles};
 ghost use Rattle.lts_base.specs.System.{IsSystem};
 ghost use Rattle.lts_base.specs.Alphabet.{IsAlphabet, IsOver};
 ghost use Rattle.tool_base.specs.Given.{sources_from, names_of, IsHalted, IsSplitOf, IsSettledOf, RefusesSettled};
-ghost use Rattle.tool_base.specs.Sources.{RefusesLabels};
-ghost use Rattle.tool_base.specs.Loaded.{LoadsSystems, LoadsOne, LoadsTwo, IsOneOver, AreTwoOver, one_source, two_sources};
+ghost use Rattle.tool_base.specs.Sources.{AreRead, RefusesLabels};
+ghost use Rattle.tool_base.specs.Loaded.{LoadsSystems, LoadsOne, LoadsTwo, LoadsDigestedSystem, IsOneOver, IsDigestedOver, AreTwoOver, one_source, two_sources};
 
 use crate::cycles::settled;
+use crate::load::load_digested;
 use crate::raw::{raw_systems, rule};
 use crate::refusal::{Refusal, Stop};
 use crate::sources::Sources;
 use edge_io::Files;
-use lts_base::{Divergence, Labels, Lts, RawLts, Rule, SplitError, SplitSystems, split};
+use log_text::Digest;
+use lts_base::{Divergence, Labels, Listed, Lts, RawLts, Rule, SplitError, SplitSystems, split};
 use std::alloc::Global;
 use torx_words::Sorting;
 
@@ -34,6 +36,17 @@ pub struct TwoSystems {
     pub first: Lts,
     /// The system of the second file.
     pub second: Lts,
+}
+
+/// The system of one file, over its alphabet, and the digest of the file.
+#[derive(Drop)]
+pub struct DigestedSystem {
+    /// The alphabet.
+    pub labels: Labels,
+    /// The system.
+    pub system: Lts,
+    /// The digest of the bytes that the system was read from.
+    pub digest: Digest,
 }
 
 /// The system of the file of this name.
@@ -59,6 +72,38 @@ pub fn one_system<F: Files>(
         unreachable!()
     };
     Ok(OneSystem { labels, system })
+}
+
+/// The system of the file of this name, and the digest of the file.
+pub fn digested_system<F: Files>(
+    alloc: Global,
+    files: &mut F,
+    name: &str,
+    sorting: Sorting<'_>,
+    divergence: Divergence,
+) -> Result<DigestedSystem, Stop>
+    ensures loaded { LoadsDigestedSystem (F.told files.old) (F.told files.new) (one_source name.now sorting.entry divergence) name.now result }
+    ensures over { IfOk result IsDigestedOver }
+    ensures keeps { KeepsFiles (F.told files.old) (F.told files.new) }
+{
+    let sources = Sources {
+        names: &[name],
+        sorting,
+        divergence,
+    };
+    let (raw, digest) = load_digested(alloc, files, name)?;
+    let mut raws = Listed::new(alloc);
+    raws.push(raw)?;
+    let SplitSystems { labels, systems } = over_files(alloc, files, &sources, raws.as_slice())?;
+    let mut systems = systems.into_vec();
+    let Some(system) = systems.pop() else {
+        unreachable!()
+    };
+    Ok(DigestedSystem {
+        labels,
+        system,
+        digest,
+    })
 }
 
 /// The systems of the files of these names.
@@ -103,8 +148,24 @@ fn all_systems<F: Files>(
     ensures keeps { KeepsFiles (F.told files.old) (F.told files.new) }
 {
     let raws = raw_systems(alloc, files, sources.names)?;
+    over_files(alloc, files, sources, raws.as_slice())
+}
+
+/// The systems of all files, which were read as these raw ones.
+fn over_files<F: Files>(
+    alloc: Global,
+    files: &mut F,
+    sources: &Sources<'_>,
+    raws: &[RawLts],
+) -> Result<SplitSystems, Stop>
+    requires read { AreRead (F.told files.old).content (names_of sources.now.names.now) raws.now }
+    ensures loaded { LoadsSystems (F.told files.old) (F.told files.new) (sources_from sources.now) result }
+    ensures sound { IfOk result (λ s. All IsSystem s.systems) }
+    ensures over { IfOk result (λ s. All (IsOver s.labels) s.systems) }
+    ensures keeps { KeepsFiles (F.told files.old) (F.told files.new) }
+{
     let rule = rule(alloc, files, sources.sorting)?;
-    over_one_alphabet(alloc, sources, raws.as_slice(), &rule)
+    over_one_alphabet(alloc, sources, raws, &rule)
 }
 
 /// The systems of raw ones over their alphabet, as they are to be read.

@@ -1,5 +1,5 @@
 -- Promise: the answers of the program, and their exit statuses.
-use Rattle.std.specs.Prelude.{ℕ}
+use Rattle.std.specs.Prelude.{ℕ, nat_lt, if◌then◌else◌}
 use Rattle.tool_base.specs.declared.refusal.Refusal.{Refusal}
 use Rattle.tool_base.specs.declared.refusal.Refusal.TheVariants.{TooLong as LongFile, BadFile as FaultyFile, BadLabels as FaultyLabels, Divergent as Diverging, FileFault as UnreadFile}
 use Rattle.cmd_check.specs.declared.outcome.CheckOutcome.{CheckOutcome}
@@ -10,9 +10,16 @@ use Rattle.cmd_outs.specs.declared.outcome.OutsOutcome.{OutsOutcome}
 use Rattle.cmd_outs.specs.declared.outcome.OutsOutcome.TheVariants.{Printed as Offered, Absent as AbsentAt}
 use Rattle.cmd_angelic.specs.declared.outcome.AngelicOutcome.{AngelicOutcome}
 use Rattle.cmd_angelic.specs.declared.outcome.AngelicOutcome.TheVariants.{Printed as Completed, TooManyMoves}
+use Rattle.log_report.specs.declared.replayed.ReplayOutcome.{ReplayOutcome}
+use Rattle.log_report.specs.declared.migrated.MigrateOutcome.{MigrateOutcome}
+use Rattle.log_report.specs.declared.migrated.MigrateOutcome.TheVariants.{Printed as Migrated, NotOf as NotMigrated}
 use Rattle.torx_tool.specs.declared.status.LimitWhat.TheVariants.{Moves}
 use Rattle.torx_tool.specs.declared.status.Status.{Status}
-use Rattle.torx_tool.specs.declared.status.Status.TheVariants.{Conforms, Violates, Undecided, Accepted, Rejected, Printed, Absent, Limit, Usage, TooLong, BadFile, BadLabels, Divergent, NotEnabled, FileFault, OutFault, Memory}
+use Rattle.torx_tool.specs.declared.status.Status.TheVariants.{Conforms, Violates, Undecided, Accepted, Rejected, Printed, Absent, Replayed, NotOf, Limit, Usage, TooLong, BadFile, BadLabels, Divergent, NotEnabled, FileFault, OutFault, Memory}
+
+-- the exit status of a replay: some log fails, or else some log is off
+abbrev pub replayed_code : ℕ → ℕ → ℕ
+replayed_code fails offs = if nat_lt 0 fails then 1 else (if nat_lt 0 offs then 2 else 0)
 
 -- the exit status of each answer
 abbrev pub code_of : Status → ℕ
@@ -23,6 +30,8 @@ code_of Accepted = 0
 code_of (Rejected why) = 1
 code_of Printed = 0
 code_of (Absent place) = 1
+code_of (Replayed fails offs) = replayed_code fails offs
+code_of (NotOf log) = 1
 code_of (Limit what reached) = 2
 code_of (Usage kind) = 3
 code_of (TooLong name) = 4
@@ -47,6 +56,13 @@ verify_status (Unverified why) = Rejected why
 abbrev pub outs_status : OutsOutcome → Status
 outs_status Offered = Printed
 outs_status (AbsentAt place) = Absent place
+
+abbrev pub replay_status : ReplayOutcome → Status
+replay_status outcome = Replayed outcome.fails outcome.offs
+
+abbrev pub migrate_status : MigrateOutcome → Status
+migrate_status Migrated = Printed
+migrate_status (NotMigrated log) = NotOf log
 
 abbrev pub angelic_status : AngelicOutcome → Status
 angelic_status Completed = Printed

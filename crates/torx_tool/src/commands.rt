@@ -9,6 +9,7 @@ use crate::status::{Outcome, Status};
 use cmd_angelic::angelic;
 use cmd_check::check;
 use cmd_outs::outs;
+use cmd_replay::{migrate, replay};
 use cmd_verify::verify;
 use edge_io::Files;
 use std::alloc::Global;
@@ -25,6 +26,10 @@ pub enum Name {
     Outs,
     /// `angelic`.
     Angelic,
+    /// `replay`.
+    Replay,
+    /// `migrate`.
+    Migrate,
 }
 
 /// The command of this name.
@@ -39,6 +44,10 @@ pub fn command_named(word: &str) -> Option<Name>
         Some(Name::Outs)
     } else if word == "angelic" {
         Some(Name::Angelic)
+    } else if word == "replay" {
+        Some(Name::Replay)
+    } else if word == "migrate" {
+        Some(Name::Migrate)
     } else {
         None
     }
@@ -59,6 +68,8 @@ pub fn command_report<F: Files>(
         Name::Verify => reported(alloc, verify(alloc, files, words)),
         Name::Outs => reported(alloc, outs(alloc, files, words)),
         Name::Angelic => reported(alloc, angelic(alloc, files, words)),
+        Name::Replay => reported(alloc, replay(alloc, files, words)),
+        Name::Migrate => reported(alloc, migrate(alloc, files, words)),
     }
 }
 

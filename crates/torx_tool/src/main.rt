@@ -7,6 +7,8 @@ mod cert_tests;
 mod commands;
 #[cfg(test)]
 mod graph_tests;
+#[cfg(test)]
+mod log_tests;
 mod program;
 mod run;
 mod status;

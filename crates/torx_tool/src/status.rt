@@ -1,12 +1,13 @@
 //! The answers of the program, and their exit statuses.
 ghost use Rattle.std.specs.Prelude.{◌≡◌};
 ghost use Rattle.torx_tool.specs.declared.status.Status.{Status as TheStatus};
-ghost use Rattle.torx_tool.specs.Status.{code_of, check_status as status_of_check, verify_status as status_of_verify, outs_status as status_of_outs, angelic_status as status_of_angelic, refusal_status as status_of_refusal};
+ghost use Rattle.torx_tool.specs.Status.{code_of, check_status as status_of_check, verify_status as status_of_verify, outs_status as status_of_outs, angelic_status as status_of_angelic, replay_status as status_of_replay, migrate_status as status_of_migrate, replayed_code as code_of_replay, refusal_status as status_of_refusal};
 
 use cert_check::Checked;
 use cmd_angelic::AngelicOutcome;
 use cmd_check::CheckOutcome;
 use cmd_outs::OutsOutcome;
+use cmd_replay::{MigrateOutcome, ReplayOutcome};
 use cmd_verify::VerifyOutcome;
 use conf_decide::What;
 use lts_base::{Item, SplitError, StateList, Text, Trace};
@@ -57,6 +58,18 @@ pub enum Status {
     Absent {
         /// The first place whose prefix isn't, counted from 1.
         place: u32,
+    },
+    /// The logs were replayed.
+    Replayed {
+        /// How many of them fail.
+        fails: u32,
+        /// How many of them are off.
+        offs: u32,
+    },
+    /// A log isn't of the specification.
+    NotOf {
+        /// The first such log of version 1, counted from 1.
+        log: u32,
     },
     /// A limit was passed.
     Limit {
@@ -128,6 +141,8 @@ impl Status {
             Status::Rejected { .. } => 1,
             Status::Printed => 0,
             Status::Absent { .. } => 1,
+            Status::Replayed { fails, offs } => replayed_code(*fails, *offs),
+            Status::NotOf { .. } => 1,
             Status::Limit { .. } => 2,
             Status::Usage { .. } => 3,
             Status::TooLong { .. } => 4,
@@ -207,6 +222,39 @@ impl Outcome for AngelicOutcome {
                 reached,
             },
         }
+    }
+}
+
+impl Outcome for ReplayOutcome {
+    ghost due = { status_of_replay };
+
+    fn status(self) -> Status {
+        let ReplayOutcome { fails, offs } = self;
+        Status::Replayed { fails, offs }
+    }
+}
+
+impl Outcome for MigrateOutcome {
+    ghost due = { status_of_migrate };
+
+    fn status(self) -> Status {
+        match self {
+            MigrateOutcome::Printed => Status::Printed,
+            MigrateOutcome::NotOf { log } => Status::NotOf { log },
+        }
+    }
+}
+
+/// The exit status of a replay.
+fn replayed_code(fails: u32, offs: u32) -> u8
+    ensures { result ≡ code_of_replay fails offs }
+{
+    if fails > 0 {
+        1
+    } else if offs > 0 {
+        2
+    } else {
+        0
     }
 }
 

@@ -1,20 +1,8 @@
-use Rattle.std.proofs.Common.{◌∙◌, ℕ, List, length, ap, sym}
-use Rattle.std.specs.Borrow.{Bor}
-use Rattle.std.proofs.lemmas.List.{length-map}
-use Rattle.tool_base.proofs.LoadLaws.{AreRead-long}
-use Rattle.tool_base.proofs.StoppedLaws.{passed_on, rule_unread, ruled_before, systems_loaded, loaded_over}
+use Rattle.tool_base.proofs.ReadLaws.{loads_before, read_later}
 use Rattle.tool_base.proofs.systems.all_systems.Goals as goal
 
-pub returns-in_err-rule-clause-loaded : goal.returns-in_err-rule-clause-loaded
-returns-in_err-rule-clause-loaded g c = passed_on _ _ _ _ c.from_residual-in_err-rule.ensures.1 (rule_unread _ _ _ _ _ _ c.in_ok-raws.ensures.keeps c.in_ok-raws.ensures.read c.in_err-rule.ensures.ruled)
-
-pub over_one_alphabet-requires : goal.over_one_alphabet-requires
-over_one_alphabet-requires g c = record {
-  names = sym (length-map c.args.sources.now.names.now (λ (w : Bor (List ℕ)). w.now)) ∙ AreRead-long _ _ _ c.in_ok-raws.ensures.read ∙ sym (ap length c.as_slice.ensures);
-}
+pub over_files-requires : goal.over_files-requires
+over_files-requires g c = record { read = rw c.as_slice.ensures (read_later _ _ _ _ c.in_ok-raws.ensures.keeps c.in_ok-raws.ensures.read) }
 
 pub returns-clause-loaded : goal.returns-clause-loaded
-returns-clause-loaded g c = systems_loaded _ _ _ _ _ _ (ruled_before _ _ _ _ _ c.in_ok-raws.ensures.keeps c.in_ok-raws.ensures.read c.in_ok-rule.ensures.ruled) (rw c.as_slice.ensures at c.over_one_alphabet.ensures.read)
-
-pub returns-clause-over : goal.returns-clause-over
-returns-clause-over g c = loaded_over _ _ _ _ (returns-clause-loaded g c)
+returns-clause-loaded g c = loads_before _ _ _ _ _ c.in_ok-raws.ensures.keeps c.over_files.ensures.loaded

@@ -11,3 +11,9 @@ returns-in-Outs-clause-report g c = rw c.in-Outs.is (c.outs.result, c.outs.ensur
 
 pub returns-in-Angelic-clause-report : goal.returns-in-Angelic-clause-report
 returns-in-Angelic-clause-report g c = rw c.in-Angelic.is (c.angelic.result, c.angelic.ensures.answers, c.reported-in-Angelic.ensures)
+
+pub returns-in-Replay-clause-report : goal.returns-in-Replay-clause-report
+returns-in-Replay-clause-report g c = rw c.in-Replay.is (c.replay.result, c.replay.ensures.answers, c.reported-in-Replay.ensures)
+
+pub returns-in-Migrate-clause-report : goal.returns-in-Migrate-clause-report
+returns-in-Migrate-clause-report g c = rw c.in-Migrate.is (c.migrate.result, c.migrate.ensures.answers, c.reported-in-Migrate.ensures)

@@ -1,0 +1,2 @@
+mod StopLaws
+pub mod OnceLaws

@@ -1,0 +1,58 @@
+-- What a content is read as, as what loading its file answers.
+use Rattle.std.proofs.Common.{◌≡◌, ℕ, ◌≤◌, List, [], ◌∷◌, ◌++◌, length, Result, Ok, Err, inr, sym, subst}
+use Rattle.edge_io.specs.Outside.{ToldFiles, KeepsFiles}
+use Rattle.lts_base.specs.declared.sorting.SplitSystems.{SplitSystems}
+use Rattle.lts_base.specs.declared.limits.TheConstants.{MOST_FILE_BYTES}
+use Rattle.lts_base.specs.Raw.{RawSystem}
+use Rattle.lts_base.specs.System.{System}
+use Rattle.lts_base.specs.Alphabet.{Alphabet}
+use Rattle.log_text.specs.declared.log.Digest.{Digest}
+use Rattle.tool_base.specs.declared.refusal.Refusal.TheVariants.{TooLong, BadFile, BadLabels, Divergent, FileFault}
+use Rattle.tool_base.specs.declared.refusal.Stop.{Stop}
+use Rattle.tool_base.specs.declared.refusal.Stop.TheVariants.{Usage, Refused, Memory}
+use Rattle.tool_base.specs.Contents.{Contents}
+use Rattle.tool_base.specs.Pages.{IsStopped}
+use Rattle.tool_base.specs.Kinds.{Kind, system_kind, IsDigestOfFile}
+use Rattle.tool_base.specs.Loads.{Loads, HasShortContent, ReadsAs}
+use Rattle.tool_base.specs.Loaded.{LoadsSystems}
+use Rattle.tool_base.specs.Sources.{Sources, AreRead, AreSystems, RefusesSources, all_names}
+use Rattle.tool_base.proofs.KindLaws.{system_most}
+use Rattle.tool_base.proofs.StoppedLaws.{IsStopped-wider, same_contents, one_loaded}
+
+-- a content that was read is that of its file
+pub read_loads : {X : Type 0} (kind : Kind X) (old new : ToldFiles) (name content : List ℕ) (result : Result X Stop) → HasShortContent kind.most old name content → ReadsAs kind name content result → Loads kind old new name result
+read_loads kind old new name content (Ok x) (has, short) reads = record { content = content; has = has; short = short; reads = reads }
+read_loads kind old new name content (Err (Usage k)) (has, short) why = absurd why
+read_loads kind old new name content (Err Memory) (has, short) why = tt
+read_loads kind old new name content (Err (Refused (BadFile named error))) (has, short) (at, faulty) = inr (at, record { content = content; has = has; short = short; faulty = faulty })
+read_loads kind old new name content (Err (Refused (TooLong named))) (has, short) why = absurd why
+read_loads kind old new name content (Err (Refused (BadLabels error))) (has, short) why = absurd why
+read_loads kind old new name content (Err (Refused (Divergent named cycle))) (has, short) why = absurd why
+read_loads kind old new name content (Err (Refused (FileFault named))) (has, short) why = absurd why
+
+-- so is that of a system
+pub system_loads : (old new : ToldFiles) (name content : List ℕ) (result : Result RawSystem Stop) → HasShortContent MOST_FILE_BYTES old name content → ReadsAs (system_kind name) name content result → Loads (system_kind name) old new name result
+system_loads old new name content result (has, short) reads =
+    read_loads (system_kind name) old new name content result (has, subst (λ (most : ℕ). length content ≤ most) (sym (system_most name)) short) reads
+
+-- what loading answers by later contents, it answers by the first
+pub loads_before : (old mid new : ToldFiles) (sources : Sources) (result : Result SplitSystems Stop) → KeepsFiles old mid → LoadsSystems mid new sources result → LoadsSystems old new sources result
+loads_before old mid new sources (Ok s) keeps are = subst (λ (c : Contents). AreSystems c sources s.labels s.systems) (same_contents old mid keeps) are
+loads_before old mid new sources (Err stop) keeps why =
+    IsStopped-wider old mid new (all_names sources) (all_names sources) (RefusesSources mid.content sources) (RefusesSources old.content sources) stop keeps (λ name has. has)
+    (λ r h. subst (λ (c : Contents). RefusesSources c sources r) (same_contents old mid keeps) h) why
+
+-- what stopped later work stopped the whole
+pub stopped_before : (old mid new : ToldFiles) (sources : Sources) (stop : Stop) → KeepsFiles old mid → IsStopped mid new (all_names sources) (RefusesSources mid.content sources) stop → IsStopped old new (all_names sources) (RefusesSources old.content sources) stop
+stopped_before old mid new sources stop keeps why = loads_before old mid new sources (Err stop) keeps why
+
+-- the one system of a file that was read before, and the digest of the file
+pub digested_loads : (old mid : ToldFiles) (sources : Sources) (name : List ℕ) (a : Alphabet) (systems rest : List System) (s : System) (digest : Digest) → KeepsFiles old mid → sources.names ≡ name ∷ [] → AreSystems mid.content sources a systems →
+    systems ≡ rest ++ s ∷ [] → IsDigestOfFile old.content name digest → AreSystems old.content sources a (s ∷ []) × IsDigestOfFile old.content name digest
+digested_loads old mid sources name a systems rest s digest keeps names are is of_file =
+    let same = one_loaded mid.content sources name a systems rest s names are is in
+    (subst (λ (c : Contents). AreSystems c sources a (s ∷ [])) (same_contents old mid keeps) (subst (AreSystems mid.content sources a) same are), of_file)
+
+-- files that were read are read of later contents
+pub read_later : (old mid : ToldFiles) (names : List (List ℕ)) (raws : List RawSystem) → KeepsFiles old mid → AreRead old.content names raws → AreRead mid.content names raws
+read_later old mid names raws keeps read = subst (λ (c : Contents). AreRead c names raws) (sym (same_contents old mid keeps)) read
