@@ -1,1 +1,4 @@
 pub mod OutsideLaws
+pub mod LinkLaws
+pub mod KeptLaws
+pub mod DialerLaws

@@ -1,3 +1,14 @@
 pub mod Outside
 pub mod Contents
 pub mod InMemory
+pub mod Links
+pub mod Streams
+pub mod Dials
+pub mod Rooms
+pub mod Kept
+pub mod LinksInMemory
+pub mod KeptActs
+pub mod StreamsInMemory
+pub mod KeptAnswers
+pub mod DialersInMemory
+pub mod KeptDials

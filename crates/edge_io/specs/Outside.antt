@@ -1,5 +1,6 @@
 -- Promise: what the outside tells, and what a call may change of it.
-use Rattle.std.specs.Prelude.{◌≡◌, ℕ, ◌+◌, ◌-◌, ◌^◌, ◌<◌, ◌≤◌, min, List, ◌++◌, length, take, drop, Option, Some, IfSome}
+use Rattle.std.specs.Prelude.{◌≡◌, ℕ, ◌+◌, ◌-◌, ◌^◌, ◌<◌, ◌≤◌, ◌⊎◌, min, List, [], ◌∷◌, ◌++◌, length, take, drop, Option, None, Some, IfSome}
+use Rattle.std.specs.Option.{option_map}
 
 -- what files tell: what each name holds, where that is told, and how many faults of each name there were
 pub record ToldFiles : Type 0 where
@@ -18,6 +19,14 @@ counted count = min (count + 1) (2 ^ 64 - 1)
 -- the count went up, or it stands at its last value
 abbrev pub Rose : ℕ → ℕ → Type 0
 Rose before now = counted before ≤ now
+
+-- a list that is told is told afterwards too, with these items at its end; one that isn't told isn't told afterwards
+abbrev pub Gains : {X : Type 0} → Option (List X) → Option (List X) → List X → Type 0
+Gains old new items = new ≡ option_map (λ list. list ++ items) old
+
+-- the list gained this item, or there was no room for it and the list isn't told any more
+abbrev pub Grew : {X : Type 0} → Option (List X) → Option (List X) → X → Type 0
+Grew old new item = Gains old new (item ∷ []) ⊎ (new ≡ None)
 
 -- the contents stay, and no count of faults falls
 pub record KeepsFiles (old new : ToldFiles) : Type 0 where

@@ -1,25 +1,51 @@
-//! The outside as traits: files that are read and sinks that are written to, with their forms in
-//! memory and of the system. No other crate reaches the system.
+//! The outside as traits: files that are read, sinks that are written to, and streams, links and
+//! dialers to implementations under test, with their forms in memory and of the system. No other
+//! crate reaches the system.
 #![tactic(auto)]
 
+pub mod act;
+mod asked;
+mod calls;
 pub mod content;
+pub mod dialer;
 pub mod failed;
 pub mod files;
+mod givens;
 pub mod host;
+mod kept;
+pub mod link;
 pub mod load;
+pub mod memory_dialer;
 pub mod memory_files;
+pub mod memory_link;
 pub mod memory_sink;
+pub mod memory_stream;
 pub mod put;
+mod replier;
 pub mod sink;
+pub mod stream;
 pub mod sure;
+pub mod sure_dialer;
+pub mod sure_link;
 
-pub use content::{Contents, NamedText, Numbers};
+pub use act::{Act, Acts, Heard, MOST_HEARD_BYTES};
+pub use content::{
+    Contents, Given, Givens, Links, NamedText, Numbers, Replies, Reply, Room, are_given, are_said,
+};
+pub use dialer::{DialError, Dialer};
 pub use failed::Failed;
 pub use files::Files;
 pub use host::{HostFiles, HostSink};
+pub use link::Link;
 pub use load::{LoadError, load_all};
+pub use memory_dialer::MemDialer;
 pub use memory_files::MemFiles;
+pub use memory_link::MemLink;
 pub use memory_sink::MemSink;
+pub use memory_stream::MemStream;
 pub use put::put_all;
 pub use sink::Sink;
+pub use stream::{Got, Stream};
 pub use sure::{SureFiles, SureSink};
+pub use sure_dialer::{ShutDialer, SureDialer};
+pub use sure_link::SureLink;
