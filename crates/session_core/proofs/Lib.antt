@@ -1,0 +1,13 @@
+pub mod RowLaws
+pub mod CutLaws
+pub mod TurnLaws
+pub mod BoundLaws
+pub mod BackLaws
+pub mod PlaceLaws
+pub mod OfferLaws
+pub mod SoundLaws
+pub mod SawLaws
+pub mod TakeLaws
+pub mod DueLaws
+pub mod PlayLaws
+pub mod AskLaws

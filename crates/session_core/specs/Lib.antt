@@ -1,0 +1,15 @@
+pub mod Told
+pub mod Table
+pub mod Reading
+pub mod Fuel
+pub mod Fitting
+pub mod Offers
+pub mod Kept
+pub mod Seat
+pub mod Placed
+pub mod Sound
+pub mod Answered
+pub mod Stopping
+pub mod Driven
+pub mod Logged
+pub mod Sets
