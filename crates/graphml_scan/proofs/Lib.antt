@@ -3,3 +3,5 @@ pub mod PieceLaws
 pub mod LengthLaws
 pub mod ReferenceLaws
 pub mod TagLaws
+pub mod WrittenLaws
+pub mod WrittenUtf8

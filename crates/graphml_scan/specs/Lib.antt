@@ -9,3 +9,4 @@ pub mod TagValues
 pub mod MarkupValues
 pub mod Pushed
 pub mod Names
+pub mod Written

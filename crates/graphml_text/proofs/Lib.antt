@@ -7,3 +7,8 @@ pub mod NodeLaws
 pub mod EndsLaws
 pub mod DocumentLaws
 pub mod LabelLaws
+pub mod PieceSteps
+pub mod DrawingSteps
+pub mod DrawingLaws
+pub mod PlaceLaws
+pub mod StateLaws

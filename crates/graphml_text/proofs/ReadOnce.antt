@@ -77,3 +77,11 @@ refuses_only content e (Err f) read why other = elim (refuses_once content e f w
   | inr (inl memory) ↦ absurd (other memory)
   | inr (inr memory) ↦ inr memory
 ]
+
+-- what is read of a content that says this system
+pub says_only : (content : List ℕ) (s : Said) (r : Result RawSystem GraphError) → document content ≡ Ok s → MatchResult r (IsGraphmlFile content) (RefusesGraphml content) → MatchResult r (λ raw. said_of raw ≡ s) (λ e. e ≡ Memory)
+says_only content s (Ok raw) said read = ok_is (document content) (said_of raw) s read.file said
+says_only content s (Err e) said read = elim (why_of content e read) [
+  | inl memory ↦ memory
+  | inr own ↦ absurd (never_both (document content) s e said own)
+]

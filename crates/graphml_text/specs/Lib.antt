@@ -5,3 +5,5 @@ pub mod MachineValues
 pub mod Kept
 pub mod Going
 pub mod Ends
+pub mod Drawing
+pub mod Places

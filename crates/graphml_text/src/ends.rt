@@ -10,9 +10,11 @@ ghost use Rattle.graphml_text.specs.Document as spec;
 ghost use Rattle.graphml_text.specs.MachineValues.{reading_of, edge_of, ids_of, Says};
 ghost use Rattle.graphml_text.specs.Kept.{IsKept, IsLabelled};
 ghost use Rattle.graphml_text.specs.Ends.{Joins, IsEdgeFault, AreEdges, IsEdgesFault, IsNear, system_of};
+ghost use Rattle.graphml_text.specs.Places.{IsPlaces};
 
 use crate::error::GraphError;
 use crate::machine::{Machine, NamedEdge};
+use crate::places::{Places, numbered_place, place_of, places_of};
 use aut_text::RawParts;
 use graphml_scan::{Keyed, bytes_of};
 use indexmap::IndexSet;
@@ -20,13 +22,14 @@ use lts_base::{LtsError, RawLts};
 use std::alloc::Global;
 
 /// The place of a node's id among the nodes.
-fn place_of(nodes: &IndexSet<Vec<u8>, Keyed>, id: &[u8]) -> Option<usize>
+fn found_place(nodes: &IndexSet<Vec<u8>, Keyed>, places: &Places, id: &[u8]) -> Option<usize>
+    requires { IsPlaces (ids_of nodes.now.keys) places.now }
     ensures place { result ≡ spec.place_of (ids_of nodes.now.keys) id.now }
     ensures within { IfSome result (λ place. place < length nodes.now.keys) }
 {
-    match nodes.get_index_of(id) {
-        None => None,
+    match numbered_place(places, id) {
         Some(place) => Some(place),
+        None => place_of(nodes, id),
     }
 }
 
@@ -50,9 +53,11 @@ struct Near<'b> {
 #[tactic(auto, using(crate::proofs::EndsLaws::near_is))]
 fn source_of<'b>(
     nodes: &IndexSet<Vec<u8>, Keyed>,
+    places: &Places,
     near: &mut Near<'b>,
     id: &'b [u8],
 ) -> Option<usize>
+    requires places { IsPlaces (ids_of nodes.now.keys) places.now }
     requires near { IsNear (ids_of nodes.now.keys) near.old }
     requires known { IfSome near.old.place (λ place. place < length nodes.now.keys) }
     ensures near { IsNear (ids_of nodes.now.keys) near.new }
@@ -63,7 +68,7 @@ fn source_of<'b>(
     if near.id == id {
         return near.place;
     }
-    let place = place_of(nodes, id);
+    let place = found_place(nodes, places, id);
     *near = Near { id, place };
     place
 }
@@ -71,11 +76,13 @@ fn source_of<'b>(
 /// Adds the move of the edge.
 fn add_edge<'b>(
     nodes: &IndexSet<Vec<u8>, Keyed>,
+    places: &Places,
     parts: &mut RawParts,
     near: &mut Near<'b>,
     edge: &'b NamedEdge,
 ) -> Result<(), GraphError>
     requires nodes { length nodes.now.keys ≤ MOST_STATES }
+    requires places { IsPlaces (ids_of nodes.now.keys) places.now }
     requires near { IsNear (ids_of nodes.now.keys) near.old }
     requires known { IfSome near.old.place (λ place. place < length nodes.now.keys) }
     requires few { length parts.old.moves < 2 ^ 32 - 1 }
@@ -84,10 +91,10 @@ fn add_edge<'b>(
     ensures known { IfSome near.new.place (λ place. place < length nodes.now.keys) }
     ensures edge { MatchResult result (λ _. Joins nodes.now.keys edge.now parts.old parts.new) (IsEdgeFault (ids_of nodes.now.keys) (edge_of edge.now)) }
 {
-    let Some(from) = source_of(nodes, near, bytes_of(&edge.source)) else {
+    let Some(from) = source_of(nodes, places, near, bytes_of(&edge.source)) else {
         return Err(GraphError::UnknownNode(edge.at));
     };
-    let Some(to) = place_of(nodes, bytes_of(&edge.target)) else {
+    let Some(to) = found_place(nodes, places, bytes_of(&edge.target)) else {
         return Err(GraphError::UnknownNode(edge.at));
     };
     parts.push(from as u32, label_of(edge), to as u32)?;
@@ -105,13 +112,14 @@ fn moves_of(
     requires labels { All IsLabelled (map edge_of edges.now) }
     ensures { MatchResult result (AreEdges (ids_of nodes.now.keys) (map edge_of edges.now)) (IsEdgesFault (ids_of nodes.now.keys) (map edge_of edges.now)) }
 {
+    let places = places_of(alloc, nodes)?;
     let mut parts = RawParts::new(alloc);
     let mut near = Near {
         id: b"",
         place: place_of(nodes, b""),
     };
     for edge in edges {
-        match add_edge(nodes, &mut parts, &mut near, edge) {
+        match add_edge(nodes, &places, &mut parts, &mut near, edge) {
             Ok(()) => {}
             Err(fault) => return Err(fault),
         }

@@ -7,6 +7,7 @@ mod error;
 mod front;
 pub mod limits;
 mod machine;
+mod places;
 mod reader;
 mod role;
 mod step;

@@ -5,6 +5,7 @@ ghost use Rattle.graphml_text.specs.Element.{step, innermost};
 ghost use Rattle.lts_base.specs.Raw.{IsRaw};
 ghost use Rattle.graphml_text.specs.Reading.{Reading, nothing_read};
 ghost use Rattle.graphml_text.specs.Document as spec;
+ghost use Rattle.graphml_text.specs.Drawing.{IsDrawing, IsWritten};
 ghost use Rattle.graphml_scan.specs.MarkupValues.{token_of};
 ghost use Rattle.graphml_text.specs.MachineValues.{reading_of, Says, Steps};
 ghost use Rattle.graphml_text.specs.Kept.{IsKept};
@@ -24,6 +25,7 @@ pub fn read_graphml(alloc: Global, bytes: &[u8]) -> Result<RawLts, GraphError>
     ensures read { MatchResult result (spec.IsGraphmlFile bytes.now) (spec.RefusesGraphml bytes.now) }
     ensures only { (r : _) → spec.IsGraphmlFile bytes.now r → MatchResult result (λ q. q ≡ r) (λ e. e ≡ GraphError.Memory) }
     ensures fault { (e : _) → spec.RefusesGraphml bytes.now e → ¬ (e ≡ GraphError.Memory) → MatchResult result (λ _. ⊥) (spec.IsOrMemory e) }
+    ensures drawn { (d : _) → IsDrawing d → IsWritten d bytes.now → MatchResult result (λ r. spec.said_of r ≡ d.system) (λ e. e ≡ GraphError.Memory) }
 {
     read_content(alloc, bytes)
 }
