@@ -1,7 +1,7 @@
 -- Laws on the keys of a relation's pairs.
-use Rattle.std.proofs.Common.{◌≡◌, ◌↔◌, ℕ, ◌+◌, ◌<◌, ◌≤◌, List, [], ◌∷◌, ◌++◌, length, get_or, All, inl, inr, Contains, Bool, true, false, not, refl, sym, ap, ◌∙◌, arith}
+use Rattle.std.proofs.Common.{◌≡◌, ◌↔◌, ℕ, ◌+◌, ◌<◌, ◌≤◌, List, [], ◌∷◌, ◌++◌, length, get_or, map, All, inl, inr, Contains, Bool, true, false, not, refl, sym, ap, ◌∙◌, arith}
 use Rattle.std.specs.Prelude.{IsTrue}
-use Rattle.std.proofs.lemmas.List.{get_or_push, get_or_append_left, length_push}
+use Rattle.std.proofs.lemmas.List.{get_or-map, get_or_push, get_or_append_left, length-map, length_push}
 use Rattle.std.proofs.lemmas.Bool.{cases_lt, false≢true}
 use Rattle.lts_base.specs.declared.relation.Relation.{Relation}
 use Rattle.lts_base.specs.Alphabet.{AreRising, text_at}
@@ -9,8 +9,7 @@ use Rattle.lts_base.specs.Related.{rows_of}
 use Rattle.lts_base.proofs.LabelLaws.{less_apart}
 use Rattle.lts_base.proofs.NextLaws.{contains_number}
 use Rattle.cert_check.specs.Numbers.{Enters}
-use Rattle.cert_check.specs.Checks.{IsPairOf}
-use Rattle.cert_check.specs.Index.{Names, pair_at, IsPlace, key_of, IsKey, AreKeys, LacksKey, AreSorted, IsIndex, IsRepeat, AreRepeats}
+use Rattle.cert_check.specs.Index.{Names, pair_at, IsPlace, key_of, IsKey, AreKeys, LacksKey, AreSorted, IsIndex, IsRepeat, AreRepeats, left_of, right_of, listed}
 use Rattle.cert_check.proofs.PairLaws.{contained_named, named_contained}
 
 -- a list has one place
@@ -121,33 +120,28 @@ found_key relation lefts rights keys left right key b index is told = (
       told.1 (rw (key_once lefts rights left right key other index.left index.right is is_other) inside),
 )
 
+-- the list that a pair names is one of those that all pairs name
+pub named_list : (lists : List (List ℕ)) (number : ℕ × ℕ → ℕ) (pairs : List (ℕ × ℕ)) (among : List (List ℕ)) (k : ℕ) → k < length pairs → All (Contains among) (listed lists (map number pairs)) →
+    Contains among (text_at lists (number (get_or pairs k (0, 0))))
+named_list lists number pairs among k below all =
+    let one : k < length (map number pairs) = rw (length-map pairs number) below in
+    let two : k < length (listed lists (map number pairs)) = rw (length-map (map number pairs) (text_at lists)) one in
+    let is : get_or (listed lists (map number pairs)) k [] ≡ text_at lists (number (get_or pairs k (0, 0))) =
+    get_or-map (text_at lists) (map number pairs) k 0 [] one ∙ ap (text_at lists) (get_or-map number pairs k (0, 0) 0 below) in
+    rw is at (all k [] two)
+
 pub no_key : (relation : Relation) (lefts rights : List (List ℕ)) (keys left right : List ℕ) → IsIndex relation lefts rights keys → LacksKey lefts rights left right → Contains (rows_of relation) (record { left = left; right = right }) → ⊥
 no_key relation lefts rights keys left right index lacks has =
     let (k, below, named) = contained_named relation left right has in
-    let within = index.named k (0, 0) below in
     let names = named (0, 0) in
-    lacks (rw (← names.first) (index.all_left (pair_at relation k).0 [] within.0), rw (← names.second) (index.all_right (pair_at relation k).1 [] within.1))
-
--- the lists of a pair are among those of their sides
-pub listed_left : (relation : Relation) (lefts : List (List ℕ)) (k : ℕ) (list : List ℕ) → k < length relation.pairs → All (IsPairOf (length relation.left) (length relation.right)) relation.pairs → All (Contains lefts) relation.left →
-    list ≡ get_or relation.left (get_or relation.pairs k (0, 0)).0 [] → Contains lefts list
-listed_left relation lefts k list below pairs all is = rw is (all (get_or relation.pairs k (0, 0)).0 [] (pairs k (0, 0) below).0)
-
-pub listed_right : (relation : Relation) (rights : List (List ℕ)) (k : ℕ) (list : List ℕ) → k < length relation.pairs → All (IsPairOf (length relation.left) (length relation.right)) relation.pairs → All (Contains rights) relation.right →
-    list ≡ get_or relation.right (get_or relation.pairs k (0, 0)).1 [] → Contains rights list
-listed_right relation rights k list below pairs all is = rw is (all (get_or relation.pairs k (0, 0)).1 [] (pairs k (0, 0) below).1)
+    lacks (
+      rw (← names.first) (named_list relation.left left_of relation.pairs lefts k below index.all_left),
+      rw (← names.second) (named_list relation.right right_of relation.pairs rights k below index.all_right),
+    )
 
 -- all pairs have been entered
-pub IsIndex-all : (relation : Relation) (lefts rights : List (List ℕ)) (n : ℕ) (keys : List ℕ) → length relation.pairs ≤ n → n ≤ length relation.pairs → AreSorted lefts → AreSorted rights → All (Contains lefts) relation.left → All (Contains rights) relation.right →
-    All (IsPairOf (length relation.left) (length relation.right)) relation.pairs → AreKeys relation lefts rights n keys → IsIndex relation lefts rights keys
-IsIndex-all relation lefts rights n keys over within left right all_left all_right named are = record {
-  left = left;
-  right = right;
-  all_left = all_left;
-  all_right = all_right;
-  named = named;
-  pairs = let same : n ≡ length relation.pairs = omega (arith, over, within) in rw same at are;
-}
+pub AreKeys-all : (relation : Relation) (lefts rights : List (List ℕ)) (n : ℕ) (keys : List ℕ) → length relation.pairs ≤ n → n ≤ length relation.pairs → AreKeys relation lefts rights n keys → AreKeys relation lefts rights (length relation.pairs) keys
+AreKeys-all relation lefts rights n keys over within are = let same : n ≡ length relation.pairs = omega (arith, over, within) in rw same at are
 
 pub AreRepeats-all : (relation : Relation) (n : ℕ) (repeated : List Bool) → length relation.pairs ≤ n → n ≤ length relation.pairs → AreRepeats relation n repeated → AreRepeats relation (length relation.pairs) repeated
 AreRepeats-all relation n repeated over within are = let same : n ≡ length relation.pairs = omega (arith, over, within) in rw same at are

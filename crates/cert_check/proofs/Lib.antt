@@ -9,6 +9,7 @@ pub mod PairLaws
 pub mod TraceLaws
 pub mod RelationLaws
 pub mod NumberLaws
+pub mod OrderedLaws
 pub mod IndexLaws
 pub mod ValidLaws
 pub mod AnswerLaws

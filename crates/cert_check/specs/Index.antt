@@ -1,8 +1,7 @@
 -- Private: how the pairs of a relation are found by their lists.
-use Rattle.std.specs.Prelude.{◌≡◌, ℕ, ◌+◌, ◌*◌, ◌<◌, List, [], length, All, Contains, Bool, true, false, slice_index_or as get_or}
+use Rattle.std.specs.Prelude.{◌≡◌, ℕ, ◌+◌, ◌*◌, ◌<◌, List, [], length, map, All, Contains, Bool, true, false, slice_index_or as get_or}
 use Rattle.lts_base.specs.declared.relation.Relation.{Relation}
 use Rattle.lts_base.specs.Alphabet.{AreRising, text_at}
-use Rattle.cert_check.specs.Checks.{IsPairOf}
 
 -- the pair of numbers names these two lists
 pub record Names (relation : Relation) (pair : ℕ × ℕ) (left right : List ℕ) : Type 0 where
@@ -41,6 +40,17 @@ pub record AreKeys (relation : Relation) (lefts rights : List (List ℕ)) (n : �
   pub all : (k : ℕ) (left right : List ℕ) → k < n → Names relation (pair_at relation k) left right →
       (key : ℕ) × IsKey lefts rights left right key × Contains keys key
 
+-- the numbers that a pair has
+abbrev pub left_of : ℕ × ℕ → ℕ
+left_of pair = pair.0
+
+abbrev pub right_of : ℕ × ℕ → ℕ
+right_of pair = pair.1
+
+-- the lists at these places
+abbrev pub listed : List (List ℕ) → List ℕ → List (List ℕ)
+listed lists places = map (text_at lists) places
+
 -- the lists aren't both in the index
 abbrev pub LacksKey : List (List ℕ) → List (List ℕ) → List ℕ → List ℕ → Type 0
 LacksKey lefts rights left right = ¬ (Contains lefts left × Contains rights right)
@@ -50,13 +60,12 @@ pub record AreSorted (lists : List (List ℕ)) : Type 0 where
   pub rising : AreRising lists
   pub few : length lists < 4294967296
 
--- the distinct lists of each side in order, and the keys of all pairs
+-- on each side distinct lists in order, those of all pairs among them, and the keys of all pairs
 pub record IsIndex (relation : Relation) (lefts rights : List (List ℕ)) (keys : List ℕ) : Type 0 where
   pub left : AreSorted lefts
   pub right : AreSorted rights
-  pub all_left : All (Contains lefts) relation.left
-  pub all_right : All (Contains rights) relation.right
-  pub named : All (IsPairOf (length relation.left) (length relation.right)) relation.pairs
+  pub all_left : All (Contains lefts) (listed relation.left (map left_of relation.pairs))
+  pub all_right : All (Contains rights) (listed relation.right (map right_of relation.pairs))
   pub pairs : AreKeys relation lefts rights (length relation.pairs) keys
 
 -- an earlier pair names the lists that this one names

@@ -11,6 +11,7 @@ mod marks;
 mod moves;
 mod numbers;
 mod offers;
+mod ordered;
 mod present;
 pub mod relation;
 mod sets;

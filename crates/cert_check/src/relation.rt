@@ -10,14 +10,16 @@ ghost use Rattle.cert_check.specs.Present.{ArePresent};
 ghost use Rattle.cert_check.specs.Progress.{IsRelationOf, TellsMore, TellsClosed, TellsOpen};
 
 use crate::checked::Checked;
-use crate::index::{Index, has_pair, index_of, is_repeat, list_at};
+use crate::index::{Index, has_pair, index_of, is_repeat};
 use crate::items::item_at;
 use crate::marks::Marks;
 use crate::offers::{allows, shows};
+use crate::ordered::list_at;
 use crate::present::present_in;
 use crate::sets::{next_of, opening_of};
 use crate::side::Side;
-use lts_base::{Item, Lts, Memory, Mode, Relation};
+use cert_text::PackedRelation;
+use lts_base::{Item, Lts, Memory, Mode};
 use std::alloc::Global;
 
 /// Whether the relation is valid: it has the pair of the two opening sets; in each pair the right
@@ -29,7 +31,7 @@ pub fn check_relation(
     imp: &Lts,
     spec: &Lts,
     mode: Mode,
-    relation: &Relation,
+    relation: &PackedRelation,
 ) -> Result<Checked, Memory>
     requires inputs { spec.now.inputs ≡ imp.now.inputs }
     requires outputs { spec.now.outputs ≡ imp.now.outputs }
@@ -52,7 +54,7 @@ fn test_relation(
     imp: &Side,
     spec: &Side,
     mode: Mode,
-    relation: &Relation,
+    relation: &PackedRelation,
 ) -> Result<Checked, Memory>
     requires relation { IsRelationOf imp.now spec.now relation.now }
     requires few { length relation.now.pairs + 1 < 2 ^ 32 }
@@ -85,13 +87,13 @@ fn check_pairs(
     imp: &Side,
     spec: &Side,
     mode: Mode,
-    relation: &Relation,
+    relation: &PackedRelation,
     index: &Index,
     imp_marks: &mut Marks,
     spec_marks: &mut Marks,
 ) -> Result<Checked, Memory>
     requires relation { IsRelationOf imp.now spec.now relation.now }
-    requires index { IsIndex relation.now index.now.lefts.items index.now.rights.items index.now.keys }
+    requires index { IsIndex relation.now index.now.lefts index.now.rights index.now.keys }
     requires few { length relation.now.pairs + 1 < 2 ^ 32 }
     requires repeats { AreRepeats relation.now (length relation.now.pairs) index.now.repeated.items }
     requires opening { HasOpening imp.now spec.now (rows_of relation.now) }
@@ -99,9 +101,9 @@ fn check_pairs(
     requires spec_states { spec_marks.old.states ≡ spec.now.states }
     ensures { IfOk result (IsCheckedRelation mode imp.now spec.now relation.now) }
 {
-    let lefts = relation.left.as_slice();
-    let rights = relation.right.as_slice();
-    let pairs = relation.pairs.as_slice();
+    let lefts = relation.left();
+    let rights = relation.right();
+    let pairs = relation.pairs();
     let mut number = 0;
     'pairs: for pair in pairs {
         number += 1;
@@ -154,7 +156,7 @@ fn first_open(
     imp: &Side,
     spec: &Side,
     mode: Mode,
-    relation: &Relation,
+    relation: &PackedRelation,
     index: &Index,
     imp_marks: &mut Marks,
     spec_marks: &mut Marks,
@@ -163,7 +165,7 @@ fn first_open(
     right: &[u32],
 ) -> Result<Option<Item>, Memory>
     requires relation { IsRelationOf imp.now spec.now relation.now }
-    requires index { IsIndex relation.now index.now.lefts.items index.now.rights.items index.now.keys }
+    requires index { IsIndex relation.now index.now.lefts index.now.rights index.now.keys }
     requires imp_states { imp_marks.old.states ≡ imp.now.states }
     requires spec_states { spec_marks.old.states ≡ spec.now.states }
     requires present { ArePresent imp.now left.now (length left.now) present.now }
@@ -196,7 +198,7 @@ fn is_closed(
     imp: &Side,
     spec: &Side,
     mode: Mode,
-    relation: &Relation,
+    relation: &PackedRelation,
     index: &Index,
     imp_marks: &mut Marks,
     spec_marks: &mut Marks,
@@ -205,7 +207,7 @@ fn is_closed(
     item: Item,
 ) -> Result<bool, Memory>
     requires relation { IsRelationOf imp.now spec.now relation.now }
-    requires index { IsIndex relation.now index.now.lefts.items index.now.rights.items index.now.keys }
+    requires index { IsIndex relation.now index.now.lefts index.now.rights index.now.keys }
     requires imp_states { imp_marks.old.states ≡ imp.now.states }
     requires spec_states { spec_marks.old.states ≡ spec.now.states }
     requires left { All (λ (q : ℕ). q < imp.now.states) left.now }

@@ -6,3 +6,4 @@ pub mod ReadLaws
 pub mod RunLaws
 pub mod AddingOnce
 pub mod CertOnce
+pub mod SizeLaws

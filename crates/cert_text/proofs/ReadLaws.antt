@@ -1,22 +1,23 @@
 -- How far a certificate has been read.
-use Rattle.std.proofs.Common.{◌≡◌, ◌∙◌, ℕ, ◌+◌, ◌<◌, ◌≤◌, List, [], ◌∷◌, ◌++◌, length, map, All, inl, inr, refl, sym, ap, subst, arith}
+use Rattle.std.proofs.Common.{◌≡◌, ◌∙◌, ℕ, ◌+◌, ◌<◌, ◌≤◌, List, [], ◌∷◌, ◌++◌, length, map, All, Result, Ok, Err, MatchResult, inl, inr, refl, sym, ap, subst, arith}
 use Rattle.std.proofs.lemmas.List.{append-nil, append_assoc, map-append, length_push}
 use Rattle.std.proofs.lemmas.List.Elements.{All-nil, All-push}
 use Rattle.std.proofs.lemmas.Grind.{flat_map-append}
 use Rattle.lts_base.specs.declared.item.Mode.{Mode}
 use Rattle.lts_base.specs.Alphabet.{Alphabet}
-use Rattle.text_scan.specs.Cut.{IsCut}
+use Rattle.text_scan.specs.Cut.{Lacks, IsCut}
 use Rattle.text_scan.specs.Lines.{lines_of}
 use Rattle.text_scan.proofs.LineLaws.{lines_of-cut}
+use Rattle.cert_text.specs.declared.cert.Cert.{Cert}
 use Rattle.cert_text.specs.declared.error.CertError.{CertError}
 use Rattle.cert_text.specs.declared.error.CertError.TheVariants.{Line, Cut, UnknownLabel, StateRange, Memory}
 use Rattle.cert_text.specs.declared.stage.Stage.{Stage}
 use Rattle.cert_text.specs.declared.stage.Stage.TheVariants.{Opening, Titled, Moded, Pairing, Tracing, Showing, Ended}
 use Rattle.trace_text.specs.Items.{IsItem}
-use Rattle.cert_text.specs.Printed.{title_line, mode_line, relation_line, left_line, right_line, pair_line, after_line, shows_line, end_line, relation_lines, lines_at, with_ends}
-use Rattle.cert_text.specs.Certificate.{IsStates, IsPair, IsStage}
-use Rattle.cert_text.specs.Faults.{IsFaultOf, IsBegun, IsFirstFault, RefusesCert}
-use Rattle.cert_text.specs.Adding.{Adds}
+use Rattle.cert_text.specs.Printed.{title_line, mode_line, relation_line, left_line, right_line, pair_line, after_line, shows_line, end_line, relation_lines, lines_at, with_ends, printed}
+use Rattle.cert_text.specs.Certificate.{IsStates, IsPair, IsStage, IsCertOf}
+use Rattle.cert_text.specs.Faults.{IsFaultOf, IsRestFault, IsBegun, IsFirstFault, RefusesCert}
+use Rattle.cert_text.specs.Adding.{Adds, Finishes}
 
 -- the lines with a left list more
 left_grows : (ls rs : List (List ℕ)) (ps : List (ℕ × ℕ)) (x : List ℕ) → rs ≡ [] → ps ≡ [] →
@@ -142,4 +143,21 @@ IsReading-fault a imp spec content stage rest line after number e reading cut fa
   rest = rest;
   begun = reading.begun;
   fault = inl (line, after, cut, subst (λ (n : ℕ). IsFaultOf a imp spec stage line (n + 1) e) reading.count fault);
+})
+
+-- the rest without a whole line
+pub IsReading-end : (a : Alphabet) (imp spec : ℕ) (content : List ℕ) (stage : Stage) (rest : List ℕ) (number : ℕ) (result : Result Cert CertError) → IsReading a imp spec content stage rest number → Lacks 10 rest → Finishes stage rest (number + 1) result →
+    MatchResult result (IsCertOf a imp spec content) (RefusesCert a imp spec content)
+IsReading-end a imp spec content stage rest number (Ok cert) reading free ends =
+    let sound : IsStage a imp spec (Ended cert) = subst (IsStage a imp spec) ends.0 reading.begun.sound in
+    record {
+      text = reading.begun.whole ∙ ap {A = Stage} {B = List ℕ} (λ s. with_ends (lines_at a.texts s) ++ rest) ends.0 ∙ ap {A = List ℕ} {B = List ℕ} (λ t. printed a.texts cert ++ t) ends.1 ∙ append-nil (printed a.texts cert);
+      sound = sound.0;
+      within = sound.1;
+    }
+IsReading-end a imp spec content stage rest number (Err e) reading free ends = refuse a imp spec content e (record {
+  stage = stage;
+  rest = rest;
+  begun = reading.begun;
+  fault = inr (free, subst (λ (n : ℕ). IsRestFault stage rest (n + 1) e) reading.count ends);
 })

@@ -1,5 +1,6 @@
 //! Certificates: what shows that one system conforms to another, or that it doesn't.
-use lts_base::{Item, Mode, Relation, Trace};
+use crate::packed::PackedRelation;
+use lts_base::{Item, Mode, Trace};
 
 /// A certificate.
 #[derive(Drop, Debug)]
@@ -14,7 +15,7 @@ pub struct Cert {
 #[derive(Drop, Debug)]
 pub enum CertBody {
     /// The relation holds the sets of states that are reached together.
-    Related(Relation),
+    Related(PackedRelation),
     /// The implementation shows an item after the trace that the specification doesn't show.
     Shown {
         /// The trace.

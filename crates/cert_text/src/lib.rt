@@ -6,6 +6,7 @@ mod error;
 mod line;
 mod listing;
 mod number;
+mod packed;
 mod pairing;
 mod piece;
 mod printer;
@@ -15,5 +16,6 @@ mod tracing;
 
 pub use cert::{Cert, CertBody};
 pub use error::CertError;
+pub use packed::{PackedLists, PackedRelation};
 pub use printer::print_cert;
 pub use reader::read_cert;

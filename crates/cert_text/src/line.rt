@@ -5,11 +5,12 @@ ghost use Rattle.cert_text.specs.Printed.{lines_at, mode_line};
 ghost use Rattle.cert_text.specs.Adding.{Reads};
 
 use crate::error::CertError;
+use crate::packed::PackedRelation;
 use crate::pairing::read_pairing;
 use crate::piece::is_text;
 use crate::stage::Stage;
 use crate::tracing::{read_showing, read_tracing};
-use lts_base::{Labels, Listed, Mode, Relation};
+use lts_base::{Labels, Listed, Mode};
 use std::alloc::Global;
 
 /// What line `number` adds to what has been read.
@@ -79,12 +80,7 @@ fn read_moded(alloc: Global, mode: Mode, line: &[u8], number: u32) -> Result<Sta
     ensures { (a : Alphabet) (imp spec : ℕ) → Reads a imp spec (Stage.Moded mode) line.now number result }
 {
     if is_text(line, b"kind relation") {
-        let relation = Relation {
-            left: Listed::new(alloc),
-            right: Listed::new(alloc),
-            pairs: Listed::new(alloc),
-        };
-        return Ok(Stage::Pairing(mode, relation));
+        return Ok(Stage::Pairing(mode, PackedRelation::new(alloc)));
     }
     if is_text(line, b"kind trace") {
         return Ok(Stage::Tracing(mode, Listed::new(alloc)));

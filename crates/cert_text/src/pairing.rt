@@ -9,16 +9,17 @@ use crate::cert::{Cert, CertBody};
 use crate::error::CertError;
 use crate::listing::list_of;
 use crate::number::{is_count, place_in};
+use crate::packed::PackedRelation;
 use crate::piece::{after_word, next_piece};
 use crate::stage::Stage;
-use lts_base::{Mode, Relation};
+use lts_base::Mode;
 use std::alloc::Global;
 
 /// What line `number` adds to a relation.
 pub fn read_pairing(
     alloc: Global,
     mode: Mode,
-    relation: Relation,
+    relation: PackedRelation,
     line: &[u8],
     imp_states: u32,
     spec_states: u32,
@@ -46,67 +47,60 @@ pub fn read_pairing(
 fn add_left(
     alloc: Global,
     mode: Mode,
-    relation: Relation,
+    relation: PackedRelation,
     text: &[u8],
     imp_states: u32,
     number: u32,
 ) -> Result<Stage, CertError>
     ensures { (a : Alphabet) (spec : ℕ) → Reads a imp_states spec (Stage.Pairing mode relation) (codes "left" ++ text.now) number result }
 {
-    let Relation {
-        mut left,
-        right,
-        pairs,
-    } = relation;
-    if !right.as_slice().is_empty() {
+    if relation.right().len() != 0 {
         return Err(CertError::Line(number));
     }
-    if !pairs.as_slice().is_empty() {
+    if !relation.pairs().is_empty() {
         return Err(CertError::Line(number));
     }
     let states = list_of(alloc, text, imp_states, number)?;
-    left.push(states)?;
-    Ok(Stage::Pairing(mode, Relation { left, right, pairs }))
+    let mut longer = relation;
+    longer.push_left(states.as_slice())?;
+    Ok(Stage::Pairing(mode, longer))
 }
 
 fn add_right(
     alloc: Global,
     mode: Mode,
-    relation: Relation,
+    relation: PackedRelation,
     text: &[u8],
     spec_states: u32,
     number: u32,
 ) -> Result<Stage, CertError>
     ensures { (a : Alphabet) (imp : ℕ) → Reads a imp spec_states (Stage.Pairing mode relation) (codes "right" ++ text.now) number result }
 {
-    let Relation {
-        left,
-        mut right,
-        pairs,
-    } = relation;
-    if !pairs.as_slice().is_empty() {
+    if !relation.pairs().is_empty() {
         return Err(CertError::Line(number));
     }
     let states = list_of(alloc, text, spec_states, number)?;
-    right.push(states)?;
-    Ok(Stage::Pairing(mode, Relation { left, right, pairs }))
+    let mut longer = relation;
+    longer.push_right(states.as_slice())?;
+    Ok(Stage::Pairing(mode, longer))
 }
 
-fn add_pair(mode: Mode, relation: Relation, text: &[u8], number: u32) -> Result<Stage, CertError>
+fn add_pair(
+    mode: Mode,
+    relation: PackedRelation,
+    text: &[u8],
+    number: u32,
+) -> Result<Stage, CertError>
     requires left { length relation.left < 2 ^ 32 }
     requires right { length relation.right < 2 ^ 32 }
     ensures { (a : Alphabet) (imp spec : ℕ) → Reads a imp spec (Stage.Pairing mode relation) (codes "pair" ++ text.now) number result }
 {
-    let Relation {
-        left,
-        right,
-        mut pairs,
-    } = relation;
-    let Some(pair) = pair_in(text, left.as_slice().len(), right.as_slice().len()) else {
+    let Some(pair) = pair_in(text, relation.left().len(), relation.right().len()) else {
         return Err(CertError::Line(number));
     };
-    pairs.push(pair)?;
-    Ok(Stage::Pairing(mode, Relation { left, right, pairs }))
+    let mut longer = relation;
+    longer.push_pair(pair)?;
+    Ok(Stage::Pairing(mode, longer))
 }
 
 /// The pair of places from 0 that the text names from 1, among so many on the left and on the right.
@@ -135,13 +129,13 @@ fn pair_in(text: &[u8], lefts: usize, rights: usize) -> Option<(u32, u32)>
 
 fn end_relation(
     mode: Mode,
-    relation: Relation,
+    relation: PackedRelation,
     text: &[u8],
     number: u32,
 ) -> Result<Stage, CertError>
     ensures { (a : Alphabet) (imp spec : ℕ) → Reads a imp spec (Stage.Pairing mode relation) (codes "end" ++ text.now) number result }
 {
-    if !is_end(text, relation.pairs.as_slice().len()) {
+    if !is_end(text, relation.pairs().len()) {
         return Err(CertError::Line(number));
     }
     Ok(Stage::Ended(Cert {

@@ -5,7 +5,8 @@ ghost use Rattle.cert_text.specs.Printed as text_of;
 ghost use Rattle.cert_text.specs.Certificate.{IsCert, IsWithin, IsCertOf};
 
 use crate::cert::{Cert, CertBody};
-use lts_base::{Item, Labels, Listed, Memory, Mode, Relation, StateList, Text};
+use crate::packed::{PackedLists, PackedRelation};
+use lts_base::{Item, Labels, Listed, Memory, Mode, Text};
 use std::alloc::{AllocError, Global};
 use trace_text::{put_item, put_items, put_line};
 
@@ -53,13 +54,17 @@ fn put_number(alloc: Global, text: &mut Vec<u8>, number: u64) -> Result<(), Allo
     text.extend_from_slice(digits.as_bytes())
 }
 
-fn put_relation(alloc: Global, text: &mut Vec<u8>, relation: &Relation) -> Result<(), AllocError>
+fn put_relation(
+    alloc: Global,
+    text: &mut Vec<u8>,
+    relation: &PackedRelation,
+) -> Result<(), AllocError>
     ensures { OnOk result (text.new.items ≡ text.old.items ++ text_of.with_ends (text_of.body_lines [] (CertBody.Related relation.now))) }
 {
     put_line(text, b"kind relation", b"")?;
-    put_lists(alloc, text, b"left", relation.left.as_slice())?;
-    put_lists(alloc, text, b"right", relation.right.as_slice())?;
-    let pairs = relation.pairs.as_slice();
+    put_lists(alloc, text, b"left", relation.left())?;
+    put_lists(alloc, text, b"right", relation.right())?;
+    let pairs = relation.pairs();
     put_pairs(alloc, text, pairs)?;
     put_end(alloc, text, pairs.len())?;
     Ok(())
@@ -69,12 +74,12 @@ fn put_lists(
     alloc: Global,
     text: &mut Vec<u8>,
     word: &[u8],
-    lists: &[StateList],
+    lists: &PackedLists,
 ) -> Result<(), AllocError>
     ensures { OnOk result (text.new.items ≡ text.old.items ++ text_of.with_ends (map (text_of.number_line word.now) lists.now)) }
 {
-    'lists: for list in lists {
-        put_list(alloc, text, word, list.as_slice())?;
+    'lists: for place in 0..lists.len() {
+        put_list(alloc, text, word, lists.get(place))?;
     }
     Ok(())
 }

@@ -1,6 +1,7 @@
 //! How far a certificate has been read.
 use crate::cert::Cert;
-use lts_base::{Item, Mode, Relation, Trace};
+use crate::packed::PackedRelation;
+use lts_base::{Item, Mode, Trace};
 
 /// What the lines so far say.
 #[derive(Drop, Debug)]
@@ -12,7 +13,7 @@ pub enum Stage {
     /// The title and the mode.
     Moded(Mode),
     /// The beginning of a relation.
-    Pairing(Mode, Relation),
+    Pairing(Mode, PackedRelation),
     /// The beginning of a trace.
     Tracing(Mode, Trace),
     /// A trace and the item that is shown after it.

@@ -1,3 +1,5 @@
 pub mod CertLaws
 pub mod PrintableLaws
 pub mod OnceLaws
+pub mod FitLaws
+pub mod AskableLaws

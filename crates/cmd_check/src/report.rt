@@ -9,7 +9,7 @@ ghost use Rattle.cmd_check.specs.declared.outcome.CheckOutcome.TheVariants.{NotE
 use crate::outcome::CheckOutcome;
 use crate::text::check_text;
 use crate::words::Check;
-use cert_text::{Cert, CertBody, print_cert};
+use cert_text::{Cert, CertBody, PackedRelation, print_cert};
 use conf_decide::{Answer, Verdict, verdict_of};
 use lts_base::{Labels, Memory, Mode};
 use std::alloc::Global;
@@ -61,7 +61,10 @@ fn certified(
     ensures { IfOk result (IsReportOf (outcome_of answer) (cert_text mode labels.now.texts answer)) }
 {
     match answer {
-        Answer::Conforms(relation) => stated(alloc, mode, labels, CertBody::Related(relation)),
+        Answer::Conforms(relation) => {
+            let packed = PackedRelation::of(alloc, relation)?;
+            stated(alloc, mode, labels, CertBody::Related(packed))
+        }
         Answer::Violates { trace, shown } => {
             stated(alloc, mode, labels, CertBody::Shown { trace, shown })
         }
@@ -107,7 +110,7 @@ fn statement(body: CertBody) -> CheckOutcome
 {
     match body {
         CertBody::Related(relation) => CheckOutcome::Conforms {
-            pairs: relation.pairs.as_slice().len() as u32,
+            pairs: relation.pairs().len() as u32,
         },
         CertBody::Shown { trace, shown } => CheckOutcome::Violates { trace, shown },
     }

@@ -8,3 +8,4 @@ mod EndLaws
 pub mod GrowLaws
 pub mod OpeningLaws
 pub mod OnceLaws
+pub mod DepthLaws

@@ -4,3 +4,4 @@ pub mod KindLaws
 pub mod ReadLaws
 pub mod InputOnce
 pub mod CommandLaws
+pub mod StateLaws

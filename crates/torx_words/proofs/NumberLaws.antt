@@ -1,20 +1,22 @@
 -- The number of a text, and the range of an option's number.
-use Rattle.std.proofs.Common.{arith, ◌≡◌, ◌&&◌, ◌^◌, ℕ, ◌<◌, ◌≤◌, Bool, cond, true, false, refl, sym, ap, subst, List, [], ◌∷◌, length, Option, Some, None, is_some, unwrap_or, true≢false}
+use Rattle.std.proofs.Common.{arith, ◌≡◌, ◌&&◌, ◌^◌, ℕ, ◌<◌, ◌≤◌, Bool, cond, true, false, refl, sym, ap, subst, List, [], ◌∷◌, length, map, Option, Some, None, Result, Ok, Err, is_some, unwrap_or, true≢false}
 use Rattle.std.specs.Prelude.{MatchOption, nat_le, nat_lt, option_and_then, option_map, min, max}
 use Rattle.std.specs.Char.{digit_value}
 use Rattle.std.specs.List.{find, list_all}
+use Rattle.std.specs.Option.{option_map_or}
 use Rattle.std.specs.Str.{bytes_eq}
 use Rattle.std.specs.Str.Parse.{AllDigits, digits_value}
 use Rattle.std.proofs.lemmas.Bool.{ltb-true, lt-ltb, leb-true, le-leb}
 use Rattle.clap.proofs.WalkLemmas.{both}
 use Rattle.text_scan.specs.Decimal.{IsDecimal}
-use Rattle.torx_words.specs.Accepted.{Entry, Shape, fits, has_clash, has_values, may_all_stand, pairs_of, refusal_of}
-use Rattle.torx_words.specs.Form.{Reading, value_of}
+use Rattle.torx_words.specs.Accepted.{Entry, Shape, accepted, fits, has_clash, has_values, judged, known_of, may_all_stand, pairs_of, refusal_of}
+use Rattle.torx_words.specs.Form.{Reading, read_once, value_of}
 use Rattle.torx_words.specs.Meaning.{kind_by, number_of, range_of, range_with}
 use Rattle.torx_words.specs.Named.{GivenWords}
 use Rattle.torx_words.specs.Values.{decimal_of, may_stand}
 use Rattle.torx_words.specs.declared.form.ValueKind.{ValueKind}
 use Rattle.torx_words.specs.declared.form.ValueKind.TheVariants.{Flag, Marks, Divergence, Name, Number}
+use Rattle.torx_words.specs.declared.kind.UsageKind.{UsageKind}
 use Rattle.torx_words.specs.declared.kind.UsageKind.TheVariants.{Words, Value, Clash}
 use Rattle.torx_words.proofs.ParserRules.{same_text}
 
@@ -141,3 +143,20 @@ number_within shape r name usual n good small is = go (kind_by name shape.option
 pub number_given : (shape : Shape) (r : Reading) (g : GivenWords) (name : List ℕ) (usual n : ℕ) → refusal_of shape r ≡ None → record { shape = shape; reading = r } ≡ g → n ≤ 18446744073709551615
     → n ≡ number_of name usual r → ((range_of name usual g.shape).0 ≤ n) × (n ≤ (range_of name usual g.shape).1)
 number_given shape r g name usual n good e small is = subst (λ (x : GivenWords). ((range_of name usual x.shape).0 ≤ n) × (n ≤ (range_of name usual x.shape).1)) e (number_within shape r name usual n good small is)
+
+-- what is accepted isn't refused
+accepted_unrefused : (shape : Shape) (words : List (List ℕ)) (r : Reading) → accepted shape words ≡ Ok r → refusal_of shape r ≡ None
+accepted_unrefused shape words r e = go (read_once (map known_of shape.options) words) e
+  where
+    judge : (q : Reading) (o : Option UsageKind) → refusal_of shape q ≡ o → judged q o ≡ Ok r → refusal_of shape r ≡ None
+    judge q None is f = let same : q ≡ r = cc in subst (λ (x : Reading). refusal_of shape x ≡ None) same is
+    judge q (Some kind) is f = absurd cc
+
+    go : (o : Option Reading) → option_map_or (λ q. judged q (refusal_of shape q)) o (Err Words) ≡ Ok r → refusal_of shape r ≡ None
+    go None f = absurd cc
+    go (Some q) f = judge q (refusal_of shape q) refl f
+
+-- the number that accepted words give an option, or its usual one, is at most the most that the option may have
+pub number_most : (shape : Shape) (words : List (List ℕ)) (r : Reading) (name : List ℕ) (usual least most : ℕ) → accepted shape words ≡ Ok r → kind_by name shape.options ≡ Some (Number least most) → number_of name usual r ≤ max most usual
+number_most shape words r name usual least most e kind =
+    (within least most usual (value_of name r) (kind_stands r name shape.options (Number least most) (stands_all shape r (accepted_unrefused shape words r e)) kind)).1

@@ -14,47 +14,47 @@ pairs-init c = record {
 
 pub present_in-requires : goal.present_in-requires
 present_in-requires c =
-    let below : c.pairs.pair-index < length c.args.relation.now.pairs = rw c.as_slice-pairs.ensures at c.pairs-test.true in
-    let left : c.list_at-left.result.now ≡ get_or c.args.relation.now.left (get_or c.args.relation.now.pairs c.pairs.pair-index (0, 0)).0 [] = rw (c.as_slice-lefts.ensures, c.as_slice-pairs.ensures) at c.list_at-left.ensures in
+    let below : c.pairs.pair-index < length c.args.relation.now.pairs = rw c.pairs-pairs.ensures at c.pairs-test.true in
+    let left : c.list_at-left.result.now ≡ get_or c.args.relation.now.left (get_or c.args.relation.now.pairs c.pairs.pair-index (0, 0)).0 [] = rw (c.left-lefts.ensures, c.pairs-pairs.ensures) at c.list_at-left.ensures in
     rw c.lts.ensures (listed _ _ _ _ c.requires.relation.left (c.requires.relation.pairs c.pairs.pair-index (0, 0) below).0 left)
 
 pub shows_more-requires-clause-left : goal.shows_more-requires-clause-left
 shows_more-requires-clause-left c =
-    let below : c.pairs.pair-index < length c.args.relation.now.pairs = rw c.as_slice-pairs.ensures at c.pairs-test.true in
-    let left : c.list_at-left.result.now ≡ get_or c.args.relation.now.left (get_or c.args.relation.now.pairs c.pairs.pair-index (0, 0)).0 [] = rw (c.as_slice-lefts.ensures, c.as_slice-pairs.ensures) at c.list_at-left.ensures in
+    let below : c.pairs.pair-index < length c.args.relation.now.pairs = rw c.pairs-pairs.ensures at c.pairs-test.true in
+    let left : c.list_at-left.result.now ≡ get_or c.args.relation.now.left (get_or c.args.relation.now.pairs c.pairs.pair-index (0, 0)).0 [] = rw (c.left-lefts.ensures, c.pairs-pairs.ensures) at c.list_at-left.ensures in
     listed _ _ _ _ c.requires.relation.left (c.requires.relation.pairs c.pairs.pair-index (0, 0) below).0 left
 
 pub shows_more-requires-clause-right : goal.shows_more-requires-clause-right
 shows_more-requires-clause-right c =
-    let below : c.pairs.pair-index < length c.args.relation.now.pairs = rw c.as_slice-pairs.ensures at c.pairs-test.true in
-    let right : c.list_at-right.result.now ≡ get_or c.args.relation.now.right (get_or c.args.relation.now.pairs c.pairs.pair-index (0, 0)).1 [] = rw (c.as_slice-rights.ensures, c.as_slice-pairs.ensures) at c.list_at-right.ensures in
+    let below : c.pairs.pair-index < length c.args.relation.now.pairs = rw c.pairs-pairs.ensures at c.pairs-test.true in
+    let right : c.list_at-right.result.now ≡ get_or c.args.relation.now.right (get_or c.args.relation.now.pairs c.pairs.pair-index (0, 0)).1 [] = rw (c.right-rights.ensures, c.pairs-pairs.ensures) at c.list_at-right.ensures in
     listed _ _ _ _ c.requires.relation.right (c.requires.relation.pairs c.pairs.pair-index (0, 0) below).1 right
 
 pub first_open-requires-clause-left : goal.first_open-requires-clause-left
 first_open-requires-clause-left c =
-    let below : c.pairs.pair-index < length c.args.relation.now.pairs = rw c.as_slice-pairs.ensures at c.pairs-test.true in
-    let left : c.list_at-left.result.now ≡ get_or c.args.relation.now.left (get_or c.args.relation.now.pairs c.pairs.pair-index (0, 0)).0 [] = rw (c.as_slice-lefts.ensures, c.as_slice-pairs.ensures) at c.list_at-left.ensures in
+    let below : c.pairs.pair-index < length c.args.relation.now.pairs = rw c.pairs-pairs.ensures at c.pairs-test.true in
+    let left : c.list_at-left.result.now ≡ get_or c.args.relation.now.left (get_or c.args.relation.now.pairs c.pairs.pair-index (0, 0)).0 [] = rw (c.left-lefts.ensures, c.pairs-pairs.ensures) at c.list_at-left.ensures in
     listed _ _ _ _ c.requires.relation.left (c.requires.relation.pairs c.pairs.pair-index (0, 0) below).0 left
 
 pub first_open-requires-clause-right : goal.first_open-requires-clause-right
 first_open-requires-clause-right c =
-    let below : c.pairs.pair-index < length c.args.relation.now.pairs = rw c.as_slice-pairs.ensures at c.pairs-test.true in
-    let right : c.list_at-right.result.now ≡ get_or c.args.relation.now.right (get_or c.args.relation.now.pairs c.pairs.pair-index (0, 0)).1 [] = rw (c.as_slice-rights.ensures, c.as_slice-pairs.ensures) at c.list_at-right.ensures in
+    let below : c.pairs.pair-index < length c.args.relation.now.pairs = rw c.pairs-pairs.ensures at c.pairs-test.true in
+    let right : c.list_at-right.result.now ≡ get_or c.args.relation.now.right (get_or c.args.relation.now.pairs c.pairs.pair-index (0, 0)).1 [] = rw (c.right-rights.ensures, c.pairs-pairs.ensures) at c.list_at-right.ensures in
     listed _ _ _ _ c.requires.relation.right (c.requires.relation.pairs c.pairs.pair-index (0, 0) below).1 right
 
 pub returns-then-shows_more : goal.returns-then-shows_more
 returns-then-shows_more c =
-    let below : c.pairs.pair-index < length c.args.relation.now.pairs = rw c.as_slice-pairs.ensures at c.pairs-test.true in
-    let left : c.list_at-left.result.now ≡ get_or c.args.relation.now.left (get_or c.args.relation.now.pairs c.pairs.pair-index (0, 0)).0 [] = rw (c.as_slice-lefts.ensures, c.as_slice-pairs.ensures) at c.list_at-left.ensures in
-    let right : c.list_at-right.result.now ≡ get_or c.args.relation.now.right (get_or c.args.relation.now.pairs c.pairs.pair-index (0, 0)).1 [] = rw (c.as_slice-rights.ensures, c.as_slice-pairs.ensures) at c.list_at-right.ensures in
+    let below : c.pairs.pair-index < length c.args.relation.now.pairs = rw c.pairs-pairs.ensures at c.pairs-test.true in
+    let left : c.list_at-left.result.now ≡ get_or c.args.relation.now.left (get_or c.args.relation.now.pairs c.pairs.pair-index (0, 0)).0 [] = rw (c.left-lefts.ensures, c.pairs-pairs.ensures) at c.list_at-left.ensures in
+    let right : c.list_at-right.result.now ≡ get_or c.args.relation.now.right (get_or c.args.relation.now.pairs c.pairs.pair-index (0, 0)).1 [] = rw (c.right-rights.ensures, c.pairs-pairs.ensures) at c.list_at-right.ensures in
     let names : Names c.args.relation.now (get_or c.args.relation.now.pairs c.pairs.pair-index (0, 0)) c.list_at-left.result.now c.list_at-right.result.now = record { first = sym left; second = sym right } in
     (c.pairs.pair-index, ap (λ z. z + 1) c.pairs.invariant.number, more_at _ _ _ _ _ (0, 0) _ _ below names (rw c.if-shows_more.true at c.shows_more.ensures) c.pairs.invariant.valid)
 
 pub returns-in-Some : goal.returns-in-Some
 returns-in-Some c =
-    let below : c.pairs.pair-index < length c.args.relation.now.pairs = rw c.as_slice-pairs.ensures at c.pairs-test.true in
-    let left : c.list_at-left.result.now ≡ get_or c.args.relation.now.left (get_or c.args.relation.now.pairs c.pairs.pair-index (0, 0)).0 [] = rw (c.as_slice-lefts.ensures, c.as_slice-pairs.ensures) at c.list_at-left.ensures in
-    let right : c.list_at-right.result.now ≡ get_or c.args.relation.now.right (get_or c.args.relation.now.pairs c.pairs.pair-index (0, 0)).1 [] = rw (c.as_slice-rights.ensures, c.as_slice-pairs.ensures) at c.list_at-right.ensures in
+    let below : c.pairs.pair-index < length c.args.relation.now.pairs = rw c.pairs-pairs.ensures at c.pairs-test.true in
+    let left : c.list_at-left.result.now ≡ get_or c.args.relation.now.left (get_or c.args.relation.now.pairs c.pairs.pair-index (0, 0)).0 [] = rw (c.left-lefts.ensures, c.pairs-pairs.ensures) at c.list_at-left.ensures in
+    let right : c.list_at-right.result.now ≡ get_or c.args.relation.now.right (get_or c.args.relation.now.pairs c.pairs.pair-index (0, 0)).1 [] = rw (c.right-rights.ensures, c.pairs-pairs.ensures) at c.list_at-right.ensures in
     let names : Names c.args.relation.now (get_or c.args.relation.now.pairs c.pairs.pair-index (0, 0)) c.list_at-left.result.now c.list_at-right.result.now = record { first = sym left; second = sym right } in (
       c.pairs.pair-index,
       ap (λ z. z + 1) c.pairs.invariant.number,
@@ -63,11 +63,11 @@ returns-in-Some c =
 
 pub pairs-preserved : goal.pairs-preserved
 pairs-preserved c =
-    let below : c.pairs.pair-index < length c.args.relation.now.pairs = rw c.as_slice-pairs.ensures at c.pairs-test.true in
+    let below : c.pairs.pair-index < length c.args.relation.now.pairs = rw c.pairs-pairs.ensures at c.pairs-test.true in
     elim c.if-not-is_repeat.branch [
       | then-not-is_repeat+in_ok-present+else-shows_more+in_ok-fault+in_default w ↦
-          let left : w.list_at-left.result.now ≡ get_or c.args.relation.now.left (get_or c.args.relation.now.pairs c.pairs.pair-index (0, 0)).0 [] = rw (c.as_slice-lefts.ensures, c.as_slice-pairs.ensures) at w.list_at-left.ensures in
-          let right : w.list_at-right.result.now ≡ get_or c.args.relation.now.right (get_or c.args.relation.now.pairs c.pairs.pair-index (0, 0)).1 [] = rw (c.as_slice-rights.ensures, c.as_slice-pairs.ensures) at w.list_at-right.ensures in
+          let left : w.list_at-left.result.now ≡ get_or c.args.relation.now.left (get_or c.args.relation.now.pairs c.pairs.pair-index (0, 0)).0 [] = rw (c.left-lefts.ensures, c.pairs-pairs.ensures) at w.list_at-left.ensures in
+          let right : w.list_at-right.result.now ≡ get_or c.args.relation.now.right (get_or c.args.relation.now.pairs c.pairs.pair-index (0, 0)).1 [] = rw (c.right-rights.ensures, c.pairs-pairs.ensures) at w.list_at-right.ensures in
           let names : Names c.args.relation.now (get_or c.args.relation.now.pairs c.pairs.pair-index (0, 0)) w.list_at-left.result.now w.list_at-right.result.now = record { first = sym left; second = sym right } in
           rw (w.imp_marks-is, w.spec_marks-is) (record {
             imp_marks = w.in_ok-fault.ensures.imp_states ∙ c.pairs.invariant.imp_marks;
@@ -88,5 +88,5 @@ pairs-preserved c =
 
 pub returns : goal.returns
 returns c =
-    let over : length c.args.relation.now.pairs ≤ c.pairs.pair-index = rw c.as_slice-pairs.ensures at c.pairs-test.false in
+    let over : length c.args.relation.now.pairs ≤ c.pairs.pair-index = rw c.pairs-pairs.ensures at c.pairs-test.false in
     valid_all _ _ _ _ _ over c.pairs.invariant.valid

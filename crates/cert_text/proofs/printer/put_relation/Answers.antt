@@ -5,4 +5,4 @@ use Rattle.cert_text.proofs.printer.put_relation.Goals as goal
 
 pub returns : goal.returns
 returns c = relation_put _ _ _ _ _ _ relation_line (end_line (length c.args.relation.now.pairs)) (map left_line c.args.relation.now.left) (map right_line c.args.relation.now.right) (map pair_line c.args.relation.now.pairs)
-    c.in_ok-put_line.ensures (rw c.as_slice.ensures at c.in_ok-put_lists.ensures) (rw c.as_slice-2.ensures at c.in_ok-put_lists-2.ensures) (rw c.as_slice-pairs.ensures at c.in_ok-put_pairs.ensures) (rw c.as_slice-pairs.ensures at c.in_ok-put_end.ensures)
+    c.in_ok-put_line.ensures (rw c.left.ensures at c.in_ok-put_lists.ensures) (rw c.right.ensures at c.in_ok-put_lists-2.ensures) (rw c.pairs-pairs.ensures at c.in_ok-put_pairs.ensures) (rw c.pairs-pairs.ensures at c.in_ok-put_end.ensures)
