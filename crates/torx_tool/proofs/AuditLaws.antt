@@ -18,10 +18,13 @@ use Rattle.tool_base.specs.declared.refusal.Refusal.TheVariants.{TooLong, BadFil
 use Rattle.tool_base.specs.Contents.{Contents, AreTold}
 use Rattle.tool_base.specs.Sources.{Sources, AreSystems}
 use Rattle.tool_base.proofs.StoppedLaws.{systems_over, systems_sound}
+use Rattle.tool_base.proofs.StateLaws.{systems_small}
 use Rattle.cmd_check.specs.declared.outcome.CheckOutcome.{CheckOutcome}
 use Rattle.cmd_check.specs.declared.outcome.CheckOutcome.TheVariants.{Conforms, Violates, Undecided, NotEnabled}
 use Rattle.cmd_check.specs.Asked.{AskedCheck, check_sources, limits_asked}
 use Rattle.cmd_check.specs.Check.{outcome_of, answer_text, cert_text, IsLacking, IsVerdict}
+use Rattle.cmd_check.proofs.FitLaws.{AreAskable, relation_fits, trace_fits}
+use Rattle.cmd_check.proofs.AskableLaws.{limits_askable}
 use Rattle.cmd_check.proofs.CertLaws.{trace_of, shown_of, relation_sound, relation_within}
 use Rattle.cmd_verify.specs.declared.outcome.VerifyOutcome.{VerifyOutcome}
 use Rattle.cmd_verify.specs.declared.outcome.VerifyOutcome.TheVariants.{Accepted as Verified, Rejected as Unverified}
@@ -96,11 +99,11 @@ lacking_unmade q i (Violates trace shown) lacks made = lacks
 lacking_unmade q i (Undecided what reached depth) lacks made = made
 lacking_unmade q i (NotEnabled name state input) lacks made = made
 
-module _ (contents : Contents) (v : AskedVerify) (text : List ℕ) (has : contents v.cert ≡ Some text) (short : length text ≤ MOST_CERT_BYTES) where
+module _ (contents : Contents) (v : AskedVerify) (text : List ℕ) (has : contents v.cert ≡ Some text) where
   -- the page accepts a text that is a certificate and true
-  answers_with : (a : Alphabet) (s i : System) (cert : Cert) → AreSystems contents (verify_sources v) a (s ∷ i ∷ []) → IsCertOf a i.states s.states text cert → IsCheckedBody cert.mode i s cert.body Fine →
+  answers_with : (a : Alphabet) (s i : System) (cert : Cert) → AreSystems contents (verify_sources v) a (s ∷ i ∷ []) → length text ≤ MOST_CERT_BYTES → IsCertOf a i.states s.states text cert → IsCheckedBody cert.mode i s cert.body Fine →
       AnswersVerify contents v Verified (verify_text a.texts Verified)
-  answers_with a s i cert systems is fine = record {
+  answers_with a s i cert systems short is fine = record {
     a = a;
     s = s;
     i = i;
@@ -112,21 +115,24 @@ module _ (contents : Contents) (v : AskedVerify) (text : List ℕ) (has : conten
   }
 
   -- so it accepts the certificate of a right answer
-  answers_for : (q : AskedCheck) (a : Alphabet) (s i : System) (answer : Answer) (outcome : CheckOutcome) → AreSystems contents (verify_sources v) a (s ∷ i ∷ []) → IsMade outcome → IsDecided q.mode (limits_asked q) i s answer → outcome ≡ outcome_of answer →
+  answers_for : (q : AskedCheck) (a : Alphabet) (s i : System) (answer : Answer) (outcome : CheckOutcome) → AreSystems contents (verify_sources v) a (s ∷ i ∷ []) → AreAskable (limits_asked q) → IsMade outcome → IsDecided q.mode (limits_asked q) i s answer → outcome ≡ outcome_of answer →
       text ≡ cert_text q.mode a.texts answer → AnswersVerify contents v Verified (verify_text a.texts Verified)
-  answers_for q a s i (InRelation r) outcome systems made h is told =
+  answers_for q a s i (InRelation r) outcome systems askable made h is told =
       let sound = systems_sound contents (verify_sources v) a (s ∷ i ∷ []) systems in
+      let small = systems_small contents (verify_sources v) a (s ∷ i ∷ []) systems in
       answers_with a s i (record { mode = q.mode; body = Related r }) systems
+      (subst (λ (t : List ℕ). length t ≤ MOST_CERT_BYTES) (sym told) (relation_fits a.texts q.mode (limits_asked q) i s r askable h (sound 1 i (omega arith)) (sound 0 s (omega arith)) (small 1 i (omega arith)) (small 0 s (omega arith))))
       (record {
         text = told;
         sound = relation_sound q.mode (limits_asked q) i s r h;
         within = relation_within q.mode (limits_asked q) i s r h (sound 1 i (omega arith)) (sound 0 s (omega arith));
       }) h.valid
-  answers_for q a s i (Broken trace shown) outcome systems made h is told =
+  answers_for q a s i (Broken trace shown) outcome systems askable made h is told =
       let sound = systems_sound contents (verify_sources v) a (s ∷ i ∷ []) systems in
       let over = systems_over contents (verify_sources v) a (s ∷ i ∷ []) systems in
       let alphabet = systems.split.alphabet.alphabet in
       answers_with a s i (record { mode = q.mode; body = Shown trace shown }) systems
+      (subst (λ (t : List ℕ). length t ≤ MOST_CERT_BYTES) (sym told) (trace_fits a.texts q.mode (limits_asked q) i s trace shown h.1.0 h.1.1 askable h.1.2 (sound 1 i (omega arith)) (sound 0 s (omega arith)) alphabet.labels))
       (record {
         text = told;
         sound = (
@@ -135,7 +141,7 @@ module _ (contents : Contents) (v : AskedVerify) (text : List ℕ) (has : conten
         );
         within = tt;
       }) h.0.violation
-  answers_for q a s i (Cut what reached depth) outcome systems made h is told = absurd (subst IsMade is made)
+  answers_for q a s i (Cut what reached depth) outcome systems askable made h is told = absurd (subst IsMade is made)
 
   answers_certified : IsCertified contents v text → (t : List ℕ) × AnswersVerify contents v Verified t
   answers_certified c = go c.answers.verdict
@@ -149,14 +155,14 @@ module _ (contents : Contents) (v : AskedVerify) (text : List ℕ) (has : conten
       go : IsVerdict c.q c.answers.a c.answers.s c.answers.i c.outcome text → (t : List ℕ) × AnswersVerify contents v Verified t
       go (inl (lacks, told)) = absurd (lacking_unmade c.q c.answers.i c.outcome lacks c.made)
       go (inr (able, (answer, decided, is, told))) =
-          (verify_text c.answers.a.texts Verified, answers_for c.q c.answers.a c.answers.s c.answers.i answer c.outcome systems c.made decided is (with_cert answer told))
+          (verify_text c.answers.a.texts Verified, answers_for c.q c.answers.a c.answers.s c.answers.i answer c.outcome systems (limits_askable c.words c.q c.asks) c.made decided is (with_cert answer told))
 
 accepts : (words : List (List ℕ)) (v : AskedVerify) (contents : Contents) (status : Status) → AskForVerify contents words v → IsAnswered contents words status →
-    (text : List ℕ) → contents v.cert ≡ Some text → length text ≤ MOST_CERT_BYTES → IsCertified contents v text → IsBut Accepted status
-accepts [] v contents status ask answered text has short c = absurd ask
-accepts (first ∷ others) v contents status (is, ask, told) answered text has short c =
+    (text : List ℕ) → contents v.cert ≡ Some text → IsCertified contents v text → IsBut Accepted status
+accepts [] v contents status ask answered text has c = absurd ask
+accepts (first ∷ others) v contents status (is, ask, told) answered text has c =
     let by : IsByCommand verify_command verify_status contents others status = subst (λ (n : Option Name). IsByName n contents others status) is answered in
-    let (t, answers) = answers_certified contents v text has short c in
+    let (t, answers) = answers_certified contents v text has c in
     (by.page v ask told).answered Verified t answers
 
 -- what `verify` answers is sound, and complete for what `check` certifies

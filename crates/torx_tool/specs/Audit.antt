@@ -1,6 +1,5 @@
 -- Promise: what it means that `verify` accepts a certificate, and that it accepts those that `check` prints.
-use Rattle.std.specs.Prelude.{◌≡◌, true, ℕ, ◌≤◌, List, [], ◌∷◌, length, Some, Ok}
-use Rattle.lts_base.specs.declared.limits.TheConstants.{MOST_CERT_BYTES}
+use Rattle.std.specs.Prelude.{◌≡◌, true, ℕ, List, [], ◌∷◌, Some, Ok}
 use Rattle.lts_base.specs.System.{System}
 use Rattle.lts_base.specs.Alphabet.{Alphabet}
 use Rattle.cert_text.specs.declared.cert.Cert.{Cert}
@@ -10,7 +9,7 @@ use Rattle.tool_base.specs.Kinds.{IsFile, cert_kind}
 use Rattle.tool_base.specs.Sources.{AreSystems}
 use Rattle.cmd_check.specs.declared.outcome.CheckOutcome.{CheckOutcome}
 use Rattle.cmd_check.specs.declared.outcome.CheckOutcome.TheVariants.{Conforms, Violates, Undecided, NotEnabled}
-use Rattle.cmd_check.specs.Asked.{AskedCheck, check_sources}
+use Rattle.cmd_check.specs.Asked.{AskedCheck, check_shape, check_of, check_sources}
 use Rattle.cmd_check.specs.Check.{AnswersCheck}
 use Rattle.cmd_verify.specs.Asked.{AskedVerify, verify_shape, verify_of, verify_sources}
 use Rattle.cmd_verify.specs.Verify.{IsTrue, verify_page}
@@ -37,20 +36,22 @@ IsMade (Violates trace shown) = Unit {0}
 IsMade (Undecided what reached depth) = ⊥
 IsMade (NotEnabled name state input) = ⊥
 
--- the text is one that `check --cert` prints of a decision that it made on the same files, by the same sorting of labels and the same
--- reading of divergent systems
+-- the text is one that `check --cert` prints, on some words after its name, of a decision that it made on the same files, by the
+-- same sorting of labels and the same reading of divergent systems
 pub record IsCertified (contents : Contents) (v : AskedVerify) (text : List ℕ) : Type 0 where
+  pub words : List (List ℕ)
   pub q : AskedCheck
+  pub asks : asked check_shape check_of words ≡ Ok q
   pub outcome : CheckOutcome
   pub certifies : q.cert ≡ true
   pub sources : check_sources q ≡ verify_sources v
   pub answers : AnswersCheck contents q outcome text
   pub made : IsMade outcome
 
--- what `verify` accepts is true, whoever made the certificate; but for failures, it accepts what `check --cert` prints, if a file can hold it
+-- what `verify` accepts is true, whoever made the certificate; but for failures, it accepts what `check --cert` prints
 pub record IsAudit (contents : Contents) (v : AskedVerify) (status : Status) : Type 0 where
   pub holds : (a : Alphabet) (s i : System) (cert : Cert) → IsVerifiable contents v a s i cert → status ≡ Accepted → IsTrue cert.mode i s cert.body
-  pub accepts : (text : List ℕ) → contents v.cert ≡ Some text → length text ≤ MOST_CERT_BYTES → IsCertified contents v text → IsBut Accepted status
+  pub accepts : (text : List ℕ) → contents v.cert ≡ Some text → IsCertified contents v text → IsBut Accepted status
 
 -- whichever words ask for `verify`, the answer is sound, and complete for what `check` certifies
 abbrev pub IsAudited : Contents → List (List ℕ) → Status → Type 0

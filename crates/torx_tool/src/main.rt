@@ -6,12 +6,18 @@ mod answer;
 mod cert_tests;
 mod commands;
 #[cfg(test)]
+mod graph_limit_tests;
+#[cfg(test)]
 mod graph_tests;
 #[cfg(test)]
 mod log_tests;
+#[cfg(test)]
+mod log_text_tests;
 mod program;
 mod run;
 mod status;
+#[cfg(test)]
+mod table;
 #[cfg(test)]
 mod tests;
 #[cfg(test)]
