@@ -1,5 +1,6 @@
 pub mod ManyLaws
 pub mod PieceLaws
+pub mod NameLaws
 pub mod LengthLaws
 pub mod ReferenceLaws
 pub mod TagLaws

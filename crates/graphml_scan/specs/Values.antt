@@ -6,4 +6,4 @@ use Rattle.graphml_scan.specs.declared.reference.Value.TheVariants.{Plain, Made}
 -- the text, wherever it lies
 abbrev pub text_of : Value → List ℕ
 text_of (Plain text) = text.now
-text_of (Made text) = text.items
+text_of (Made text) = text.value.items

@@ -6,27 +6,23 @@ ghost use Rattle.graphml_scan.specs.Tag as spec;
 ghost use Rattle.graphml_scan.specs.AttributeValues.{attribute_of, attributes_of};
 
 use crate::keyed::{Digest, Keyed};
-use crate::piece::{after_byte, is_white, name_at, without_white};
+use crate::piece::{after_byte, is_same, is_white, name_at, without_white};
 use crate::reference::{Value, resolved};
 use indexmap::IndexSet;
 use lts_base::Memory;
-use smallvec::SmallVec;
 use std::alloc::Global;
 
 /// The most attributes of a tag whose names are compared by pairs.
 const MOST_COMPARED: usize = 16;
 
 /// An attribute of a tag.
-#[derive(Default, Drop)]
+#[derive(Drop)]
 pub struct Attribute<'a> {
     /// The name as it is written.
     pub name: &'a [u8],
     /// The value with its references resolved.
     pub value: Value<'a>,
 }
-
-/// Attributes in the order of the tag. Most tags have few, which take no memory.
-pub type Attributes<'a> = SmallVec<Attribute<'a>, 3>;
 
 fn white_at(bytes: &[u8]) -> Option<&[u8]>
     ensures { option_map (λ rest. rest.now) result ≡ spec.white_at bytes.now }
@@ -102,7 +98,7 @@ fn has_name(attributes: &[Attribute], name: &[u8]) -> bool
     ensures { result ≡ spec.has_name (attributes_of attributes.now) name.now }
 {
     for attribute in attributes {
-        if attribute.name == name {
+        if is_same(attribute.name, name) {
             return true;
         }
     }
@@ -162,30 +158,36 @@ fn are_once(alloc: Global, attributes: &[Attribute]) -> Result<bool, Memory>
     Ok(are_once_by_pairs(attributes))
 }
 
-/// The attributes at the front, and the bytes after them.
-fn many_at<'a>(alloc: Global, bytes: &'a [u8]) -> Result<(Attributes<'a>, &'a [u8]), Memory>
-    ensures { IfOk result (λ found. (attributes_of found.0.items, found.1.now) ≡ many spec.attribute_at bytes.now) }
+/// Puts the attributes at the front into the room, and gives the bytes after them.
+fn many_at<'a>(
+    alloc: Global,
+    room: &mut Vec<Attribute<'a>>,
+    bytes: &'a [u8],
+) -> Result<&'a [u8], Memory>
+    ensures { IfOk result (λ rest. (attributes_of room.new.items, rest.now) ≡ many spec.attribute_at bytes.now) }
 {
-    let mut attributes: Attributes<'a> = SmallVec::new(alloc);
+    room.clear();
     let mut rest = bytes;
     while let Some((attribute, after)) = attribute_at(alloc, rest)? {
-        attributes.push(attribute)?;
+        room.push(attribute)?;
         rest = after;
     }
-    Ok((attributes, rest))
+    Ok(rest)
 }
 
-/// The attributes at the front, no two of one name, and the bytes after them.
+/// Puts the attributes at the front, no two of one name, into the room in place of what it held, and gives the bytes
+/// after them. A room that is used for one tag after another takes memory once.
 pub fn attributes_at<'a>(
     alloc: Global,
+    room: &mut Vec<Attribute<'a>>,
     bytes: &'a [u8],
-) -> Result<Option<(Attributes<'a>, &'a [u8])>, Memory>
-    ensures { IfOk result (λ o. option_map (λ cut. (attributes_of cut.0.items, cut.1.now)) o ≡ spec.attributes_at bytes.now) }
+) -> Result<Option<&'a [u8]>, Memory>
+    ensures { IfOk result (λ o. option_map (λ rest. (attributes_of room.new.items, rest.now)) o ≡ spec.attributes_at bytes.now) }
 {
-    let (attributes, rest) = many_at(alloc, bytes)?;
-    let once = are_once(alloc, attributes.as_slice())?;
+    let rest = many_at(alloc, room, bytes)?;
+    let once = are_once(alloc, room.as_slice())?;
     if !once {
         return Ok(None);
     }
-    Ok(Some((attributes, rest)))
+    Ok(Some(rest))
 }

@@ -9,9 +9,11 @@ mod tag;
 mod tags;
 mod token;
 
-pub use attributes::{Attribute, Attributes, attributes_at};
+pub use attributes::{Attribute, attributes_at};
 pub use keyed::Keyed;
-pub use piece::{after_text, cut_text, is_white, name_at, trim, without_white};
-pub use reference::{Value, bytes_of, copied, longer, longer_by_part, reference_at, trimmed};
+pub use piece::{after_text, cut_text, is_same, is_white, name_at, trim, without_white};
+pub use reference::{
+    Value, bytes_of, copied, longer, longer_by_part, made_of, reference_at, trimmed,
+};
 pub use tag::Tag;
 pub use token::{Markup, markup_at, run_at};

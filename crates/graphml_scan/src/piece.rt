@@ -1,9 +1,27 @@
 //! White, names, and texts that end at a mark.
 ghost use Rattle.std.specs.Prelude.{◌≡◌, ◌<◌, ◌≤◌, length, option_map};
 ghost use Rattle.std.specs.List.{prefix_len};
+ghost use Rattle.std.specs.Str.{bytes_eq};
 ghost use Rattle.graphml_scan.specs.Piece as piece;
 
 use memchr::memmem;
+
+/// Whether the texts are the same. Most are short, and many differ in their lengths.
+pub fn is_same(text: &[u8], other: &[u8]) -> bool
+    ensures { result ≡ bytes_eq text.now other.now }
+{
+    if text.len() != other.len() {
+        return false;
+    }
+    let mut index = 0;
+    for byte in text {
+        if *byte != other[index] {
+            return false;
+        }
+        index += 1;
+    }
+    true
+}
 
 /// Whether the byte is a space, a tab, a CR or an LF.
 pub fn is_white(byte: u8) -> bool
@@ -35,6 +53,10 @@ fn begins_name(byte: u8) -> bool
 fn is_in_name(byte: u8) -> bool
     ensures { result ≡ piece.is_in_name byte }
 {
+    // (most bytes of names are such letters)
+    if byte.is_ascii_lowercase() {
+        return true;
+    }
     begins_name(byte) || byte.is_ascii_digit() || byte == b'-' || byte == b'.'
 }
 
@@ -131,8 +153,12 @@ fn without_white_back(bytes: &[u8]) -> &[u8]
 pub(crate) fn local_name(name: &[u8]) -> &[u8]
     ensures { result.now ≡ piece.local_name name.now }
 {
-    match cut_at(b':', name) {
-        None => name,
-        Some((_, local)) => local,
+    let mut rest = name;
+    while let [first, after @ ..] = rest {
+        if *first == b':' {
+            return after;
+        }
+        rest = after;
     }
+    name
 }

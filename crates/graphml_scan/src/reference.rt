@@ -1,5 +1,6 @@
 //! References, and the texts in which they stand.
-ghost use Rattle.std.specs.Prelude.{◌≡◌, ◌<◌, ◌≤◌, ◌++◌, length, option_map, if◌then◌else◌, Some, None, IfOk, IfSome, MatchOption, OnOk};
+ghost use Rattle.std.specs.Prelude.{◌≡◌, ◌==◌, ◌<◌, ◌≤◌, ◌++◌, length, option_map, if◌then◌else◌, Some, None, IfOk, IfSome, MatchOption, OnOk};
+ghost use Rattle.std.specs.List.{list_any};
 ghost use Rattle.std.specs.Char.{encode_utf8, is_digit, digit_value};
 ghost use Rattle.graphml_scan.specs.Piece as piece;
 ghost use Rattle.graphml_scan.specs.Reference as reference;
@@ -15,14 +16,26 @@ use std::alloc::Global;
 pub enum Value<'a> {
     /// It stands so in the content.
     Plain(&'a [u8]),
-    /// It was made of what stands in the content.
-    Made(Vec<u8>),
+    /// It was made of what stands in the content. (Few are, so that all others are kept small by the box.)
+    Made(Box<Vec<u8>>),
 }
 
-impl<'a> Default for Value<'a> {
-    fn default() -> Value<'a> {
-        Value::Plain(&[])
-    }
+/// A text that was made.
+pub fn made_of<'a>(alloc: Global, text: Vec<u8>) -> Result<Value<'a>, Memory>
+    ensures { IfOk result (λ v. text_of v ≡ text.items) }
+{
+    let own = Box::new(alloc, text)?;
+    Ok(Value::Made(own))
+}
+
+/// A text that is made of these bytes. (It stands apart so that callers, who seldom need it, stay small.)
+#[inline(never)]
+fn made_from<'a>(alloc: Global, bytes: &[u8]) -> Result<Value<'a>, Memory>
+    ensures { IfOk result (λ v. text_of v ≡ bytes.now) }
+{
+    let own = Vec::from_slice(alloc, bytes)?;
+    let value = made_of(alloc, own)?;
+    Ok(value)
 }
 
 fn as_character(number: u32) -> Option<char>
@@ -140,17 +153,29 @@ pub fn reference_at(bytes: &[u8]) -> Option<(char, &[u8])>
     Some((character, rest))
 }
 
+fn has_reference(bytes: &[u8]) -> bool
+    ensures { result ≡ list_any (λ b. b == 38) bytes.now }
+{
+    for byte in bytes {
+        if *byte == b'&' {
+            return true;
+        }
+    }
+    false
+}
+
 /// The text with its references resolved; None where one isn't in the form.
 pub(crate) fn resolved<'a>(alloc: Global, bytes: &'a [u8]) -> Result<Option<Value<'a>>, Memory>
     ensures { IfOk result (λ o. option_map text_of o ≡ reference.resolved bytes.now) }
 {
-    if !bytes.contains(&b'&') {
+    if !has_reference(bytes) {
         return Ok(Some(Value::Plain(bytes)));
     }
     let Some(text) = made(alloc, bytes)? else {
         return Ok(None);
     };
-    Ok(Some(Value::Made(text)))
+    let value = made_of(alloc, text)?;
+    Ok(Some(value))
 }
 
 fn made(alloc: Global, bytes: &[u8]) -> Result<Option<Vec<u8>>, Memory>
@@ -205,27 +230,29 @@ pub fn bytes_of<'b>(value: &'b Value) -> &'b [u8]
 }
 
 /// The same text.
+#[inline(always)]
 pub fn copied<'a>(alloc: Global, value: &Value<'a>) -> Result<Value<'a>, Memory>
     ensures { IfOk result (λ v. text_of v ≡ text_of value.now) }
 {
     match value {
         Value::Plain(text) => Ok(Value::Plain(text)),
         Value::Made(text) => {
-            let own = Vec::from_slice(alloc, text)?;
-            Ok(Value::Made(own))
+            let value = made_from(alloc, text.as_slice())?;
+            Ok(value)
         }
     }
 }
 
 /// The text without the white at both ends.
+#[inline(always)]
 pub fn trimmed<'a>(alloc: Global, value: &Value<'a>) -> Result<Value<'a>, Memory>
     ensures { IfOk result (λ v. text_of v ≡ piece.trimmed (text_of value.now)) }
 {
     match value {
         Value::Plain(text) => Ok(Value::Plain(trim(text))),
         Value::Made(text) => {
-            let own = Vec::from_slice(alloc, trim(text))?;
-            Ok(Value::Made(own))
+            let value = made_from(alloc, trim(text.as_slice()))?;
+            Ok(value)
         }
     }
 }
@@ -238,12 +265,14 @@ pub fn longer<'a>(alloc: Global, value: Value<'a>, more: &[u8]) -> Result<Value<
         Value::Plain(text) => {
             let mut own = Vec::from_slice(alloc, text)?;
             own.extend_from_slice(more)?;
-            Ok(Value::Made(own))
+            let longer = made_of(alloc, own)?;
+            Ok(longer)
         }
         Value::Made(text) => {
-            let mut own = text;
+            let mut own = Box::into_inner(text);
             own.extend_from_slice(more)?;
-            Ok(Value::Made(own))
+            let longer = made_of(alloc, own)?;
+            Ok(longer)
         }
     }
 }

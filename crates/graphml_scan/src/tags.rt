@@ -3,7 +3,7 @@ ghost use Rattle.std.specs.Prelude.{◌≡◌, option_map, IfOk};
 ghost use Rattle.graphml_scan.specs.Tag as spec;
 ghost use Rattle.graphml_scan.specs.TagValues.{tag_of};
 
-use crate::attributes::attributes_at;
+use crate::attributes::{Attribute, attributes_at};
 use crate::piece::{after_byte, local_name, name_at, without_white};
 use crate::tag::Tag;
 use lts_base::Memory;
@@ -27,18 +27,19 @@ fn tag_end_at(bytes: &[u8]) -> Option<(bool, &[u8])>
     Some((true, behind))
 }
 
-/// The start tag whose `<` stands before the bytes, and the bytes after it.
+/// The start tag whose `<` stands before the bytes, with its attributes in the room, and the bytes after it.
 #[tactic(auto, unfolding(crate::specs::Tag::start_tag_at))]
-pub(crate) fn start_tag_at<'a>(
+pub(crate) fn start_tag_at<'a, 'b>(
     alloc: Global,
+    room: &'b mut Vec<Attribute<'a>>,
     bytes: &'a [u8],
-) -> Result<Option<(Tag<'a>, &'a [u8])>, Memory>
+) -> Result<Option<(Tag<'a, 'b>, &'a [u8])>, Memory>
     ensures { IfOk result (λ o. option_map (λ cut. (tag_of cut.0, cut.1.now)) o ≡ spec.start_tag_at bytes.now) }
 {
     let Some((name, after)) = name_at(bytes) else {
         return Ok(None);
     };
-    let Some((attributes, behind)) = attributes_at(alloc, after)? else {
+    let Some(behind) = attributes_at(alloc, room, after)? else {
         return Ok(None);
     };
     let Some((whole, rest)) = tag_end_at(without_white(behind)) else {
@@ -47,7 +48,7 @@ pub(crate) fn start_tag_at<'a>(
     let tag = Tag {
         name,
         local: local_name(name),
-        attributes,
+        attributes: room.as_slice(),
         whole,
     };
     Ok(Some((tag, rest)))

@@ -1,5 +1,5 @@
 -- Laws on the stack of open elements, whose last is the innermost.
-use Rattle.std.proofs.Common.{◌≡◌, ◌∙◌, ℕ, zero, suc, Bool, true, false, not, cond, ◌==◌, get_or, append_assoc, ap₂, ◌+◌, ◌-◌, ◌<◌, List, [], ◌∷◌, ◌++◌, length, take, drop, map, Some, None, Result, Ok, Err, refl, sym, ap, subst, arith}
+use Rattle.std.proofs.Common.{◌≡◌, ◌∙◌, ℕ, zero, suc, Bool, true, false, cond, ◌==◌, get_or, append_assoc, ap₂, ◌+◌, ◌-◌, ◌<◌, List, [], ◌∷◌, ◌++◌, length, take, drop, map, Some, None, Result, Ok, Err, refl, sym, ap, subst, arith}
 use Rattle.std.specs.Prelude.{slice_get}
 use Rattle.std.proofs.lemmas.List.{length_push, map_push, same_from_push, length-map, append-nil, drop_more}
 use Rattle.std.specs.Str.{bytes_eq}
@@ -104,14 +104,6 @@ ended_none at m name e =
     get_none (x ∷ xs) zero h = cc
     get_none (x ∷ xs) (suc i) h = get_none xs i h
 
-pub not_set : (b : Bool) → true ≡ not b → b ≡ false
-not_set true e = e
-not_set false e = refl
-
-pub not_unset : (b : Bool) → false ≡ not b → b ≡ true
-not_unset true e = refl
-not_unset false e = e
-
 -- ---- text
 
 pub none_inside : (m : Machine) → true ≡ (length m.stack.items == 0) → innermost (reading_of m) ≡ None
@@ -205,3 +197,12 @@ outside_stop place run i m total below other none so_far =
 
 pub pop_split : (old rest : List LentOpen) (x : LentOpen) (front : List Open) (o : Open) → old ≡ rest ++ x ∷ [] → map open_of old ≡ front ++ o ∷ [] → (map open_of rest ≡ front) × (open_of x ≡ o)
 pop_split old rest x front o is split = same_from_push (map open_of rest) front (open_of x) o (sym (map_push open_of rest x) ∙ ap (λ (xs : List LentOpen). map open_of xs) (sym is) ∙ split)
+
+-- ---- text that doesn't count
+
+-- the text adds nothing to an innermost element that doesn't collect it
+pub adds_nothing : (stack : List LentOpen) (x : LentOpen) (text : List ℕ) → slice_get stack (length stack - 1) ≡ Some x → collects x.role ≡ false → Adds stack stack text
+adds_nothing stack x text is other front o split =
+    let kept : open_of x ≡ with_text text (open_of x) = rw other refl in
+    let whole = last_split stack x is in
+    texted_last stack (take (length stack - 1) stack) stack x x text front o whole whole kept split

@@ -4,13 +4,13 @@ ghost use Rattle.graphml_text.specs.Element as spec;
 ghost use Rattle.graphml_scan.specs.AttributeValues.{attributes_of};
 ghost use Rattle.graphml_scan.specs.TagValues.{tag_of};
 
-use graphml_scan::{Attribute, Tag, bytes_of};
+use graphml_scan::{Attribute, Tag, bytes_of, is_same};
 
 /// Whether the tag is one of an element of this local name.
 pub(crate) fn is_named(word: &[u8], tag: &Tag) -> bool
     ensures { result ≡ spec.is_named word.now (tag_of tag.now) }
 {
-    tag.local == word
+    is_same(tag.local, word)
 }
 
 /// The value of the attribute of this name.
@@ -18,7 +18,7 @@ pub(crate) fn value_in<'b>(name: &[u8], attributes: &'b [Attribute]) -> Option<&
     ensures { option_map (λ text. text.now) result ≡ spec.value_in name.now (attributes_of attributes.now) }
 {
     for attribute in attributes {
-        if attribute.name == name {
+        if is_same(attribute.name, name) {
             return Some(bytes_of(&attribute.value));
         }
     }
@@ -29,7 +29,7 @@ pub(crate) fn value_in<'b>(name: &[u8], attributes: &'b [Attribute]) -> Option<&
 pub(crate) fn value<'b>(name: &[u8], tag: &'b Tag) -> Option<&'b [u8]>
     ensures { option_map (λ text. text.now) result ≡ spec.value name.now (tag_of tag.now) }
 {
-    value_in(name, tag.attributes.as_slice())
+    value_in(name, tag.attributes)
 }
 
 /// Whether the text is there, and is this one.
@@ -38,7 +38,7 @@ pub(crate) fn has_text(found: Option<&[u8]>, text: &[u8]) -> bool
 {
     match found {
         None => false,
-        Some(found) => found == text,
+        Some(found) => is_same(found, text),
     }
 }
 

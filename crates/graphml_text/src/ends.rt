@@ -16,7 +16,7 @@ use crate::error::GraphError;
 use crate::machine::{Machine, NamedEdge};
 use crate::places::{Places, numbered_place, place_of, places_of};
 use aut_text::RawParts;
-use graphml_scan::{Keyed, bytes_of};
+use graphml_scan::{Keyed, bytes_of, is_same};
 use indexmap::IndexSet;
 use lts_base::{LtsError, RawLts};
 use std::alloc::Global;
@@ -65,7 +65,7 @@ fn source_of<'b>(
     ensures place { result ≡ spec.place_of (ids_of nodes.now.keys) id.now }
     ensures within { IfSome result (λ place. place < length nodes.now.keys) }
 {
-    if near.id == id {
+    if is_same(near.id, id) {
         return near.place;
     }
     let place = found_place(nodes, places, id);

@@ -14,6 +14,9 @@ use std::alloc::Global;
 pub(crate) fn is_text(bytes: &[u8]) -> bool
     ensures { result ≡ is_utf8 bytes.now }
 {
+    if bytes.is_ascii() {
+        return true;
+    }
     match simdutf8::compat::from_utf8(bytes) {
         Ok(_) => true,
         Err(_) => false,
@@ -84,13 +87,14 @@ fn declared<'a>(
     ensures body { MatchResult result (λ body. spec.declared_by at rest.now inner.now ≡ Ok body.now) (λ e. Refuses e (spec.declared_by at rest.now inner.now)) }
     ensures same { IfOk result (λ body. body.now ≡ rest.now) }
 {
-    let Some((attributes, left)) = attributes_at(alloc, inner)? else {
+    let mut room = Vec::new(alloc);
+    let Some(left) = attributes_at(alloc, &mut room, inner)? else {
         return Err(GraphError::Malformed(at));
     };
     if !is_blank(left) {
         return Err(GraphError::Malformed(at));
     }
-    if !is_utf8_named(value_in(b"encoding", attributes.as_slice())) {
+    if !is_utf8_named(value_in(b"encoding", room.as_slice())) {
         return Err(GraphError::Encoding);
     }
     Ok(rest)

@@ -9,10 +9,13 @@ use crate::element::{is_named, value};
 use crate::error::GraphError;
 use crate::limits::MOST_DEPTH;
 use crate::role::Role;
-use graphml_scan::{Keyed, Tag, Value};
+use graphml_scan::{Keyed, Tag, Value, is_same};
 use indexmap::IndexSet;
 use lts_base::limits::{MOST_MOVES, MOST_STATES};
 use std::alloc::Global;
+
+/// So many ids are compared one by one, which is faster than a hash.
+const FEW_IDS: usize = 4;
 
 /// An element that is open.
 #[derive(Drop)]
@@ -79,13 +82,35 @@ impl<'a> Machine<'a> {
     }
 }
 
+/// Whether the text is among a few ids.
+fn is_among(ids: &[Vec<u8>], id: &[u8]) -> bool
+    ensures { result ≡ spec.has (ids_of ids.now) id.now }
+{
+    for known in ids {
+        if is_same(id, known.as_slice()) {
+            return true;
+        }
+    }
+    false
+}
+
+/// Whether the text is among the ids.
+fn has_text(ids: &IndexSet<Vec<u8>, Keyed>, id: &[u8]) -> bool
+    ensures { result ≡ spec.has (ids_of ids.now.keys) id.now }
+{
+    if ids.len() <= FEW_IDS {
+        return is_among(ids.as_slice(), id);
+    }
+    ids.get_index_of(id).is_some()
+}
+
 /// Whether there is a text, and it is among the ids.
 fn has_id(ids: &IndexSet<Vec<u8>, Keyed>, found: Option<&[u8]>) -> bool
     ensures { result ≡ spec.has_value (ids_of ids.now.keys) (option_map (λ text. text.now) found.entry) }
 {
     match found {
         None => false,
-        Some(id) => ids.get_index_of(id).is_some(),
+        Some(id) => has_text(ids, id),
     }
 }
 

@@ -21,8 +21,8 @@ const FEW_NODES: usize = 1_024;
 #[derive(Drop)]
 pub(crate) struct Places {
     first: u8,
-    /// For each number 0, or 1 and the place of its node.
-    places: Vec<u32>,
+    /// For each number 0, or 1 and the place of its node. (The last of the most nodes has no room here.)
+    places: Vec<u16>,
 }
 
 fn with_digit(digit: u8, number: u32) -> Option<u32>
@@ -103,8 +103,11 @@ fn add_place(nodes: &IndexSet<Vec<u8>, Keyed>, places: &mut Places, id: &[u8])
     let Some(number) = number_of(places.first, id) else {
         return;
     };
+    if place >= u16::MAX as usize {
+        return;
+    }
     if (number as usize) < places.places.len() {
-        places.places[number as usize] = place as u32 + 1;
+        places.places[number as usize] = place as u16 + 1;
     }
 }
 
@@ -127,7 +130,7 @@ pub(crate) fn places_of(alloc: Global, nodes: &IndexSet<Vec<u8>, Keyed>) -> Resu
     let numbers = if nodes.len() > FEW_NODES { NUMBERS } else { 0 };
     let mut places = Places {
         first: first_byte(nodes),
-        places: vec![in alloc; 0u32; numbers]?,
+        places: vec![in alloc; 0u16; numbers]?,
     };
     for id in nodes.as_slice() {
         add_place(nodes, &mut places, id);

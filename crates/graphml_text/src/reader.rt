@@ -16,7 +16,7 @@ use crate::error::GraphError;
 use crate::front::{body_of, text_end, unmarked};
 use crate::machine::Machine;
 use crate::step::{ended, started, texted, texted_by_part};
-use graphml_scan::{Markup, after_text, is_white, markup_at, reference_at, run_at};
+use graphml_scan::{Attribute, Markup, after_text, is_white, markup_at, reference_at, run_at};
 use lts_base::RawLts;
 use std::alloc::Global;
 
@@ -76,7 +76,7 @@ fn text_read(at: u64, machine: &mut Machine, text: &[u8]) -> Result<(), GraphErr
 fn markup_read<'a>(
     at: u64,
     machine: &mut Machine<'a>,
-    markup: &Markup<'a>,
+    markup: &Markup<'a, '_>,
 ) -> Result<(), GraphError>
     ensures { Steps (reading_of machine.new) result (step at (reading_of machine.old) (token_of markup.now)) }
 {
@@ -119,6 +119,7 @@ fn run_read<'a>(at: u64, machine: &mut Machine<'a>, run: &'a [u8]) -> Result<(),
 fn read_markup<'a>(
     alloc: Global,
     size: usize,
+    room: &mut Vec<Attribute<'a>>,
     machine: &mut Machine<'a>,
     bytes: &'a [u8],
 ) -> Result<&'a [u8], GraphError>
@@ -128,7 +129,7 @@ fn read_markup<'a>(
     ensures { MatchResult result (λ rest. Goes size machine.old bytes.now machine.new rest.now) (Halts size machine.old bytes.now) }
 {
     let at = (size - bytes.len()) as u64;
-    let Some((markup, rest)) = markup_at(alloc, &bytes[1..])? else {
+    let Some((markup, rest)) = markup_at(alloc, room, &bytes[1..])? else {
         return Err(refusal(at, bytes));
     };
     match markup_read(at, machine, &markup) {
@@ -184,6 +185,7 @@ fn read_run<'a>(
 fn read_token<'a>(
     alloc: Global,
     size: usize,
+    room: &mut Vec<Attribute<'a>>,
     machine: &mut Machine<'a>,
     bytes: &'a [u8],
 ) -> Result<&'a [u8], GraphError>
@@ -192,7 +194,7 @@ fn read_token<'a>(
     ensures { MatchResult result (λ rest. Goes size machine.old bytes.now machine.new rest.now) (Halts size machine.old bytes.now) }
 {
     if bytes[0] == b'<' {
-        return read_markup(alloc, size, machine, bytes);
+        return read_markup(alloc, size, room, machine, bytes);
     }
     if bytes[0] == b'&' {
         return read_reference(size, machine, bytes);
@@ -206,9 +208,10 @@ fn read_tokens<'a>(alloc: Global, size: usize, body: &'a [u8]) -> Result<Machine
     ensures { MatchResult result (λ m. EndsIn size body.now (reading_of m)) (Stops size nothing_read body.now) }
 {
     let mut machine = Machine::new(alloc, body);
+    let mut room = Vec::new(alloc);
     let mut rest = body;
     while !rest.is_empty() {
-        match read_token(alloc, size, &mut machine, rest) {
+        match read_token(alloc, size, &mut room, &mut machine, rest) {
             Ok(after) => {
                 rest = after;
             }

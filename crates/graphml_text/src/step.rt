@@ -1,5 +1,5 @@
 //! What each tag and each text adds to what was read.
-ghost use Rattle.std.specs.Prelude.{◌≡◌, ◌==◌, not, ◌-◌, ◌<◌, ◌≤◌, List, [], ◌∷◌, ◌++◌, nat_lt, length, map, slice_set, option_map, Some, None, OnOk, IfOk, IfSome};
+ghost use Rattle.std.specs.Prelude.{◌≡◌, ℕ, false, ◌==◌, not, ◌-◌, ◌<◌, ◌≤◌, List, [], ◌∷◌, ◌++◌, nat_lt, length, map, slice_set, option_map, Some, None, OnOk, IfOk, IfSome};
 ghost use Rattle.std.specs.List.{list_any, find};
 ghost use Rattle.std.specs.Str.{is_utf8};
 ghost use Rattle.text_scan.specs.Listing.{has_bytes};
@@ -17,7 +17,7 @@ use crate::front::is_text;
 use crate::machine::{Draft, Machine, NamedEdge, Open, role_of, start_fault};
 use crate::role::Role;
 use graphml_scan::{
-    Keyed, Tag, Value, bytes_of, copied, is_white, longer, longer_by_part, trim,
+    Keyed, Tag, Value, bytes_of, copied, is_same, is_white, longer, longer_by_part, made_of, trim,
     trimmed as value_trimmed,
 };
 use indexmap::IndexSet;
@@ -25,11 +25,12 @@ use lts_base::Memory;
 use lts_base::limits::MOST_LABEL_BYTES;
 use std::alloc::Global;
 
-fn needed<'a>(alloc: Global, name: &[u8], tag: &Tag<'a>) -> Result<Value<'a>, Memory>
+#[inline(always)]
+fn needed<'a>(alloc: Global, name: &[u8], tag: &Tag<'a, '_>) -> Result<Value<'a>, Memory>
     ensures { IfOk result (λ v. text_of v ≡ spec.needed name.now (tag_of tag.now)) }
 {
-    for attribute in tag.attributes.as_slice() {
-        if attribute.name == name {
+    for attribute in tag.attributes {
+        if is_same(attribute.name, name) {
             return copied(alloc, &attribute.value);
         }
     }
@@ -68,7 +69,7 @@ fn add_node(machine: &mut Machine, tag: &Tag) -> Result<(), Memory>
     insert_id(&mut machine.nodes, id)
 }
 
-fn begin_edge<'a>(machine: &mut Machine<'a>, tag: &Tag<'a>) -> Result<(), Memory>
+fn begin_edge<'a>(machine: &mut Machine<'a>, tag: &Tag<'a, '_>) -> Result<(), Memory>
     ensures { OnOk result (reading_of machine.new ≡ spec.entered (reading_of machine.old) (tag_of tag.now) Role.Edge) }
 {
     let source = needed(machine.alloc, b"source", tag)?;
@@ -91,7 +92,7 @@ fn begin_label(machine: &mut Machine) -> Result<(), Memory>
     Ok(())
 }
 
-fn entered<'a>(machine: &mut Machine<'a>, tag: &Tag<'a>, role: Role) -> Result<(), Memory>
+fn entered<'a>(machine: &mut Machine<'a>, tag: &Tag<'a, '_>, role: Role) -> Result<(), Memory>
     ensures { OnOk result (reading_of machine.new ≡ spec.entered (reading_of machine.old) (tag_of tag.now) role) }
 {
     match role {
@@ -115,7 +116,7 @@ fn entered<'a>(machine: &mut Machine<'a>, tag: &Tag<'a>, role: Role) -> Result<(
 pub(crate) fn opened<'a>(
     at: u64,
     machine: &mut Machine<'a>,
-    tag: &Tag<'a>,
+    tag: &Tag<'a, '_>,
     role: Role,
 ) -> Result<(), Memory>
     ensures { OnOk result (reading_of machine.new ≡ spec.opened at (reading_of machine.old) (tag_of tag.now) role) }
@@ -208,11 +209,13 @@ fn spaced_label<'a>(alloc: Global, value: &Value<'a>) -> Result<Value<'a>, Memor
                 return Ok(Value::Plain(text));
             }
             let label = spaced_text(alloc, text)?;
-            Ok(Value::Made(label))
+            let value = made_of(alloc, label)?;
+            Ok(value)
         }
         Value::Made(text) => {
-            let label = spaced_text(alloc, text)?;
-            Ok(Value::Made(label))
+            let label = spaced_text(alloc, text.as_slice())?;
+            let value = made_of(alloc, label)?;
+            Ok(value)
         }
     }
 }
@@ -351,7 +354,7 @@ fn closed(machine: &mut Machine) -> Result<(), GraphError>
 pub(crate) fn started<'a>(
     at: u64,
     machine: &mut Machine<'a>,
-    tag: &Tag<'a>,
+    tag: &Tag<'a, '_>,
 ) -> Result<(), GraphError>
     ensures { Steps (reading_of machine.new) result (spec.step at (reading_of machine.old) (Start (tag_of tag.now))) }
 {
@@ -373,7 +376,7 @@ pub(crate) fn ended(at: u64, machine: &mut Machine, name: &[u8]) -> Result<(), G
     let Some(open) = machine.stack.last() else {
         return Err(GraphError::Malformed(at));
     };
-    if open.name != name {
+    if !is_same(open.name, name) {
         return Err(GraphError::Malformed(at));
     }
     closed(machine)
@@ -417,6 +420,16 @@ fn with_text<'a>(alloc: Global, element: Open<'a>, more: &[u8]) -> Result<Open<'
     })
 }
 
+/// Whether text counts in the innermost element.
+fn collects_inside(stack: &[Open]) -> bool
+    ensures { result ≡ false → (text : List ℕ) → Adds stack.now stack.now text }
+{
+    match stack.last() {
+        None => true,
+        Some(element) => collects(element.role),
+    }
+}
+
 /// The same, where the text is a part of the content.
 pub(crate) fn texted_by_part<'a>(
     alloc: Global,
@@ -425,6 +438,9 @@ pub(crate) fn texted_by_part<'a>(
 ) -> Result<(), Memory>
     ensures { OnOk result (Adds stack.old.items stack.new.items more.now) }
 {
+    if !collects_inside(stack.as_slice()) {
+        return Ok(());
+    }
     let Some(element) = stack.pop() else {
         return Ok(());
     };

@@ -5,8 +5,8 @@ use Rattle.graphml_scan.specs.AttributeValues.{attributes_of}
 use Rattle.graphml_scan.proofs.TagLaws.{after_front}
 use Rattle.graphml_scan.proofs.attributes.many_at.Given as goal
 
-abbrev pub invariant-loop-attributes : goal.invariant-loop-attributes
-invariant-loop-attributes l = after_front (attributes_of l.attributes.items) (many attribute_at l.rest) ≡ many attribute_at l.bytes
+abbrev pub invariant-loop-attribute : goal.invariant-loop-attribute
+invariant-loop-attribute l = after_front (attributes_of l.room.items) (many attribute_at l.rest) ≡ many attribute_at l.bytes
 
-abbrev pub decreases-loop-attributes : goal.decreases-loop-attributes
-decreases-loop-attributes l = length l.rest
+abbrev pub decreases-loop-attribute : goal.decreases-loop-attribute
+decreases-loop-attribute l = length l.rest
