@@ -11,3 +11,5 @@ pub mod TakeLaws
 pub mod DueLaws
 pub mod PlayLaws
 pub mod AskLaws
+pub mod FormLaws
+pub mod JudgeLaws

@@ -1,6 +1,7 @@
 -- A session goes on over its walk.
-use Rattle.std.proofs.Common.{◌≡◌, ℕ, ◌+◌, ◌<◌, ◌≤◌, ◌↔◌, ◌⊎◌, inl, inr, Bool, IsTrue, List, [], ◌∷◌, ◌++◌, length, None, refl, sym, ◌∙◌, ap, arith}
+use Rattle.std.proofs.Common.{◌≡◌, ℕ, ◌+◌, ◌<◌, ◌≤◌, ◌↔◌, ◌⊎◌, inl, inr, Bool, IsTrue, List, [], ◌∷◌, ◌++◌, length, All, None, refl, sym, ◌∙◌, ap, arith}
 use Rattle.std.proofs.lemmas.List.{length_push}
+use Rattle.std.proofs.lemmas.List.Elements.{All-nil, All-push}
 use Rattle.lts_base.specs.declared.item.Item.{Item}
 use Rattle.lts_base.specs.declared.item.Item.TheVariants.{Input, Output, Delta}
 use Rattle.lts_base.specs.declared.item.Mode.{Mode}
@@ -68,6 +69,13 @@ rules_new w a setup alphabet over patience patient steps few = record {
   few = few;
 }
 
+-- the item at the end of a node's trace is one of the alphabet
+pub item_at : (w : Walked) (mode : Mode) (k : ℕ) (σ : List Item) (x : Item) → IsAt w mode k (σ ++ x ∷ []) → IsItemOf w.system x
+item_at w mode k σ x at = Has-item w.system σ x at.walk.system (IsAllowed-has mode w.system (σ ++ x ∷ []) at.allowed)
+
+pub items_push : (s : System) (σ : List Item) (x : Item) → All (IsItemOf s) σ → IsItemOf s x → All (IsItemOf s) (σ ++ x ∷ [])
+items_push s σ x items item = All-push (IsItemOf s) σ x items item
+
 -- the node of the opening set is that of no items
 pub at_opening : (w : Walked) (mode : Mode) (k : ℕ) → IsWalk w → k < length w.sets → IsSetAfter w.system [] (set_at w.sets k) → IsAt w mode k []
 at_opening w mode k walk within set = record { walk = walk; within = within; set = set; allowed = IsAllowed-nil mode w.system }
@@ -82,6 +90,7 @@ sound_new w a r room here next offers rules long at below = record {
   offered = λ h. offers_of w r a.inputs here [] offers rules.system (rw rules.system at rules.inputs) at below;
   going = opening_going r rules.patience rules.steps;
   strange = λ h. refl;
+  items = All-nil (IsItemOf r.system);
 }
 
 -- the session goes on with the same items
@@ -95,18 +104,21 @@ sound_same w a r kept here next offers t sound opened items strange chosen going
   offered = λ h. rw items (sound.offered opened);
   going = going;
   strange = λ h. strange ∙ sound.strange opened;
+  items = rw items sound.items;
 }
 
--- the session is done
-pub sound_done : (w : Walked) (a : Alphabet) (r : Rules) (kept : Kept) (here next : ℕ) (offers : List ℕ) (t : Sitting) (v : Verdict) → IsSound w a r kept here next offers → t.phase ≡ Done v → IsSound w a r (record { sitting = t; room = kept.room }) here next offers
-sound_done w a r kept here next offers t v sound done = record {
+-- an item was logged, and the session is done
+pub sound_done : (w : Walked) (a : Alphabet) (r : Rules) (kept : Kept) (here next : ℕ) (offers : List ℕ) (after : Kept) (x : Item) (mid k : ℕ) (v : Verdict) → IsSound w a r kept here next offers → IsItemOf r.system x →
+    after.sitting ≡ record kept.sitting { phase = Done v; items = kept.sitting.items ++ x ∷ []; mid = mid } → after.room ≡ kept.room → IsSound w a r after k next offers
+sound_done w a r kept here next offers after x mid k v sound item is room = record {
   rules = sound.rules;
-  room = sound.room;
-  at = λ h. absurd (rw done at h);
-  chosen = rw done tt;
-  offered = λ h. absurd (rw done at h);
-  going = rw done tt;
-  strange = λ h. absurd (rw done at h);
+  room = room ∙ sound.room;
+  at = λ h. absurd (rw is at h);
+  chosen = rw is tt;
+  offered = λ h. absurd (rw is at h);
+  going = rw is tt;
+  strange = λ h. absurd (rw is at h);
+  items = rw is (items_push r.system kept.sitting.items x sound.items item);
 }
 
 -- an input of the alphabet that is allowed is offered
@@ -142,6 +154,7 @@ sound_logged w a r kept here next offers after x mid k m news sound opened low a
       offered = λ h. rw is (offers_of w r a.inputs k (kept.sitting.items ++ x ∷ []) news sound.rules.system (rw sound.rules.system at sound.rules.inputs) at below);
       going = rw is (record { items = short (length kept.sitting.items) (length (kept.sitting.items ++ x ∷ [])) r.steps going.items long unequal; mid = omega (arith, low, going.mid); idles = λ h. cc });
       strange = λ h. rw is (sound.strange opened);
+      items = rw (is, sound.rules.system) (items_push w.system kept.sitting.items x (rw sound.rules.system at sound.items) (item_at w r.mode k kept.sitting.items x at));
     }
   where
     short : (a b c : ℕ) → a < c → b ≡ a + 1 → (b ≡ c → ⊥) → b < c
@@ -166,6 +179,7 @@ sound_kept w v a setup kept here next offers same grows sound =
       offered = sound.offered;
       going = sound.going;
       strange = sound.strange;
+      items = sound.items;
     })
 
 -- the step for a chosen input was made
@@ -183,4 +197,5 @@ sound_look w v a setup kept here next offers after i k same grows sound asks at 
       offered = λ h. rw is (sound.offered opened);
       going = rw is (record { items = going.items; mid = going.mid; idles = λ h. cc });
       strange = λ h. rw is (sound.strange opened);
+      items = rw is sound.items;
     })

@@ -123,6 +123,14 @@ abbrev pub IsDriven : {C S : Type 0} → (C → List ℕ → List Item → Choic
 IsDriven answer gives p (Ok v) q = HasPlayed answer gives p q × (q.seat.sitting.phase ≡ Done v)
 IsDriven {C} {S} answer gives p (Err e) q = (m : Playing C S) × HasPlayed answer gives p m × Stopped answer gives m e q
 
+-- what a turn of a session with its chooser and its link made
+abbrev pub IsTurnOf : {C S K T : Type 0} → (C → List ℕ → List Item → Choice × C) → (S → Act → S → Type 0) → (K → S) → (K → ToldLink) → Seat → C → K → Result T DriveError → Seat → C → K → Type 0
+IsTurnOf answer gives state told p c k result q d l = IsTurned answer gives (at_once p c (state k) (told k)) result (at_once q d (state l) (told l))
+
+-- what a drive of a session with its chooser and its link made
+abbrev pub IsDriveOf : {C S K : Type 0} → (C → List ℕ → List Item → Choice × C) → (S → Act → S → Type 0) → (K → S) → (K → ToldLink) → Seat → C → K → Result Verdict DriveError → Seat → C → K → Type 0
+IsDriveOf answer gives state told p c k result q d l = IsDriven answer gives (at_once p c (state k) (told k)) result (at_once q d (state l) (told l))
+
 -- what a drive from the opening did, as its log says it: the events of its deeds are read so, the acts among them lead the link
 -- from its state before to its state after, and where the link keeps its acts its list gained these
 pub record IsLogged {C S : Type 0} (answer : C → List ℕ → List Item → Choice × C) (gives : S → Act → S → Type 0) (p q : Playing C S) : Type 0 where
@@ -136,3 +144,7 @@ pub record IsLogged {C S : Type 0} (answer : C → List ℕ → List Item → Ch
 abbrev pub IsLoggedDrive : {C S : Type 0} → (C → List ℕ → List Item → Choice × C) → (S → Act → S → Type 0) → Playing C S → Result Verdict DriveError → Playing C S → Type 0
 IsLoggedDrive answer gives p (Ok v) q = IsLogged answer gives p q × (q.seat.sitting.phase ≡ Done v)
 IsLoggedDrive {C} {S} answer gives p (Err e) q = (m : Playing C S) × IsLogged answer gives p m × Stopped answer gives m e q
+
+-- what a drive from the opening of a session with its chooser and its link made
+abbrev pub IsLoggedDriveOf : {C S K : Type 0} → (C → List ℕ → List Item → Choice × C) → (S → Act → S → Type 0) → (K → S) → (K → ToldLink) → Seat → C → K → Result Verdict DriveError → Seat → C → K → Type 0
+IsLoggedDriveOf answer gives state told p c k result q d l = IsLoggedDrive answer gives (at_once p c (state k) (told k)) result (at_once q d (state l) (told l))

@@ -13,3 +13,4 @@ pub mod Stopping
 pub mod Driven
 pub mod Logged
 pub mod Sets
+pub mod Judged

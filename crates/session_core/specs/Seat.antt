@@ -7,10 +7,10 @@ use Rattle.session_core.specs.declared.setup.Setup.{Setup}
 use Rattle.session_core.specs.declared.phase.Phase.{Phase}
 use Rattle.session_core.specs.declared.phase.Phase.TheVariants.{Ask, Look, Send, Hear, Done}
 use Rattle.session_core.specs.Told.{Told, Chosen, Line, Idle, IdleMid, TooLong, End, Sent}
-use Rattle.session_core.specs.Table.{Rules, Sitting, Offered, Given, Heard, Quiet, IsLogged, Turn}
+use Rattle.session_core.specs.Table.{Rules, Sitting, opening, Offered, Given, Heard, Quiet, IsLogged, Turn}
 use Rattle.walk_core.specs.declared.choice.Choice.TheVariants.{Input as Ask_input, Observe}
 use Rattle.walk_core.specs.declared.walk.WalkError.{WalkError}
-use Rattle.walk_core.specs.Walked.{Walked, IsAccount}
+use Rattle.walk_core.specs.Walked.{Walked, IsWalk, Grows, IsAccount}
 use Rattle.walk_core.specs.Refused.{RefusesAccount}
 
 -- a session: its walk, what it goes by, and where it is
@@ -30,6 +30,10 @@ rules_of w labels setup = record {
   goal = setup.goal;
 }
 
+-- a session at its opening
+abbrev pub opened : Walked → Alphabet → Setup → Seat
+opened w labels setup = record { walked = w; rules = rules_of w labels setup; sitting = opening }
+
 -- what is given is logged after these items, and the trace is that of the items with it
 abbrev pub IsTraceLogged : Rules → List Item → Given → List Item → Type 0
 IsTraceLogged r σ given τ = (x : Item) × IsLogged r σ given x × (τ ≡ σ ++ x ∷ [])
@@ -45,9 +49,12 @@ AsksIn other r s event τ = ⊥
 abbrev pub Asks : Seat → Told → List Item → Type 0
 Asks p event τ = AsksIn p.sitting.phase p.rules p.sitting event τ
 
--- where the walk's list was the account of some traces, it is that of these and the trace
-abbrev pub Counts : Walked → Walked → List Item → Type 0
-Counts old new τ = (traces : List (List Item)) → IsAccount old traces → IsAccount new (traces ++ τ ∷ [])
+-- the walk has the set after the trace: at most this set was added, the sizes are within the limit, and where the list was the
+-- account of some traces, it is that of these and the trace
+pub record Counts (old new : Walked) (τ : List Item) : Type 0 where
+  pub grows : Grows old new
+  pub walk : IsWalk new
+  pub account : (traces : List (List Item)) → IsAccount old traces → IsAccount new (traces ++ τ ∷ [])
 
 -- where the walk's list is the account of some traces, that of these and the trace is above the limit, and has this size; or
 -- there is no memory

@@ -1,9 +1,9 @@
 -- Private: what a session keeps over its walk.
-use Rattle.std.specs.Prelude.{◌≡◌, ℕ, ◌+◌, ◌<◌, ◌≤◌, List, [], ◌∷◌, ◌++◌, length, None, ◌⊎◌}
+use Rattle.std.specs.Prelude.{◌≡◌, ℕ, ◌+◌, ◌<◌, ◌≤◌, List, [], ◌∷◌, ◌++◌, length, All, None, ◌⊎◌}
 use Rattle.lts_base.specs.declared.item.Item.{Item}
 use Rattle.lts_base.specs.declared.item.Item.TheVariants.{Input, Output, Delta}
 use Rattle.lts_base.specs.declared.item.Mode.{Mode}
-use Rattle.lts_base.specs.System.{label_count}
+use Rattle.lts_base.specs.System.{IsItemOf, label_count}
 use Rattle.lts_base.specs.Alphabet.{Alphabet}
 use Rattle.log_text.specs.declared.limits.TheConstants.{MOST_STEPS, MOST_PATIENCE}
 use Rattle.session_core.specs.declared.verdict.Verdict.TheVariants.{Pass, Fail}
@@ -46,6 +46,7 @@ pub record IsSound (w : Walked) (a : Alphabet) (r : Rules) (kept : Kept) (here n
   pub offered : IsOpen kept.sitting.phase → AreOffers r kept.sitting.items offers
   pub going : IsGoingOn r kept.sitting
   pub strange : IsOpen kept.sitting.phase → kept.sitting.strange ≡ None
+  pub items : All (IsItemOf r.system) kept.sitting.items
 
 -- what follows the items, which are all that there are to be or not
 abbrev pub PhaseAfter : Rules → List Item → Phase → Type 0

@@ -2,7 +2,7 @@
 ghost use Rattle.std.specs.Prelude.{◌≡◌, ℕ, ◌≤◌, List, [], IfErr};
 ghost use Rattle.edge_io.specs.Links.{KeepsLink, LinkFails};
 ghost use Rattle.session_core.specs.Table.{opening};
-ghost use Rattle.session_core.specs.Driven.{at_once, IsDriven, IsLoggedDrive};
+ghost use Rattle.session_core.specs.Driven.{IsDriveOf, IsLoggedDriveOf};
 
 use crate::event::Action;
 use crate::session::Session;
@@ -19,7 +19,7 @@ pub fn drive_on<W: Walk, C: Choose, K: Link, L: Ledger>(
     link: &mut K,
     steps: &mut Steps<L>,
 ) -> Result<Verdict, DriveError>
-    ensures driven { IsDriven C.answer K.gives (at_once session.old chooser.old (K.state link.old) (K.told link.old)) result (at_once session.new chooser.new (K.state link.new) (K.told link.new)) }
+    ensures driven { IsDriveOf C.answer K.gives K.state K.told session.old chooser.old link.old result session.new chooser.new link.new }
     ensures broken { IfErr result (λ e. e ≡ DriveError.Broken → LinkFails (K.told link.old) (K.told link.new)) }
     ensures later { KeepsLink (K.told link.old) (K.told link.new) }
 {
@@ -43,7 +43,7 @@ pub fn drive<W: Walk, C: Choose, K: Link, L: Ledger>(
     steps: &mut Steps<L>,
 ) -> Result<Verdict, DriveError>
     requires begins { session.old.sitting ≡ opening }
-    ensures logged { IsLoggedDrive C.answer K.gives (at_once session.old chooser.old (K.state link.old) (K.told link.old)) result (at_once session.new chooser.new (K.state link.new) (K.told link.new)) }
+    ensures logged { IsLoggedDriveOf C.answer K.gives K.state K.told session.old chooser.old link.old result session.new chooser.new link.new }
     ensures broken { IfErr result (λ e. e ≡ DriveError.Broken → LinkFails (K.told link.old) (K.told link.new)) }
     ensures later { KeepsLink (K.told link.old) (K.told link.new) }
 {

@@ -1,11 +1,11 @@
 //! A walk and the node of what was done.
-ghost use Rattle.std.specs.Prelude.{◌≡◌, ℕ, ◌<◌, ◌↔◌, List, [], ◌∷◌, ◌++◌, length, IsTrue, IfOk, OnErr, MatchResult};
+ghost use Rattle.std.specs.Prelude.{◌≡◌, ℕ, ◌+◌, ◌<◌, ◌↔◌, List, [], ◌∷◌, ◌++◌, length, IsTrue, IfOk, OnErr, MatchResult};
 ghost use Rattle.lts_base.specs.declared.item.Item.{Item as TheItem};
 ghost use Rattle.lts_base.specs.System.{IsItemOf};
 ghost use Rattle.lts_base.specs.After.{ShowsAfter};
 ghost use Rattle.lts_base.specs.Path.{Has};
 ghost use Rattle.lts_base.specs.Conformance.{IsAllowed};
-ghost use Rattle.walk_core.specs.Walked.{IsAccount};
+ghost use Rattle.walk_core.specs.Walked.{Grows, IsAccount};
 ghost use Rattle.walk_core.specs.Refused.{RefusesAccount};
 ghost use Rattle.session_core.specs.Placed.{IsAt};
 
@@ -43,8 +43,9 @@ pub(crate) fn step<W: Walk, L: Ledger>(
     requires placed { (σ : List TheItem) × IsAt (W.walked walk.old) mode node.0 σ × IsAllowed mode (W.walked walk.old).system (σ ++ item ∷ []) }
     ensures ok { (σ : List TheItem) → IsAt (W.walked walk.old) mode node.0 σ → IsAllowed mode (W.walked walk.old).system (σ ++ item ∷ []) → IfOk result (λ n. IsAt (W.walked walk.new) mode n.0 (σ ++ item ∷ [])) }
     ensures kept { (k : ℕ) (σ : List TheItem) → IsAt (W.walked walk.old) mode k σ → IsAt (W.walked walk.new) mode k σ }
-    ensures system { (W.walked walk.new).system ≡ (W.walked walk.old).system }
+    ensures grows { Grows (W.walked walk.old) (W.walked walk.new) }
     ensures same { OnErr result (W.walked walk.new ≡ W.walked walk.old) }
+    ensures steps { steps.new ≡ steps.old + 1 }
     ensures account { (traces : List (List TheItem)) (σ : List TheItem) → IsAccount (W.walked walk.old) traces → IsAt (W.walked walk.old) mode node.0 σ → IsAllowed mode (W.walked walk.old).system (σ ++ item ∷ []) → MatchResult result (λ _. IsAccount (W.walked walk.new) (traces ++ (σ ++ item ∷ []) ∷ [])) (λ e. RefusesAccount (W.walked walk.old) (traces ++ (σ ++ item ∷ []) ∷ []) e) }
 {
     match walk.step(node, item, steps) {

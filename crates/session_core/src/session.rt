@@ -9,14 +9,16 @@ ghost use Rattle.edge_io.specs.Links.{IsWithinLine};
 ghost use Rattle.session_core.specs.Fuel.{IsSeated};
 ghost use Rattle.walk_core.specs.Walked.{IsFresh};
 ghost use Rattle.session_core.specs.declared.phase.Phase.TheVariants.{Ask, Look, Send, Hear, Done};
-ghost use Rattle.session_core.specs.Told.{Chosen, Line, Idle, IdleMid, Sent};
-ghost use Rattle.session_core.specs.Table.{opening, Offered, IsOpen, Settles};
-ghost use Rattle.session_core.specs.Reading.{IsOther};
+ghost use Rattle.session_core.specs.Told.{Told, Chosen, Line, Idle, IdleMid, Sent};
+ghost use Rattle.session_core.specs.Table.{Offered, IsOpen, Settles};
+ghost use Rattle.session_core.specs.Reading.{IsOther, IsReading};
 ghost use Rattle.session_core.specs.Fitting.{told, action_of, Fits};
 ghost use Rattle.session_core.specs.Logged.{log_of};
+ghost use Rattle.session_core.specs.Judged.{verdict_of, IsJudged};
+ghost use Rattle.log_text.specs.Logs.{IsLog};
 ghost use Rattle.session_core.specs.Offers.{AreOffers};
 ghost use Rattle.session_core.specs.Placed.{IsAt};
-ghost use Rattle.session_core.specs.Seat.{rules_of, Takes, Refuses};
+ghost use Rattle.session_core.specs.Seat.{opened, Takes, Refuses};
 ghost use Rattle.session_core.specs.Sound.{IsSeen, Saw, SawIn, RefusesShown};
 
 use crate::entries::{copied, ending_of, entries_of, text_of};
@@ -80,7 +82,7 @@ impl<'a, W: Walk> Session<'a, W> {
         requires patience { (1 ≤ setup.patience) × (setup.patience ≤ MOST_PATIENCE) }
         requires steps { (1 ≤ setup.steps) × (setup.steps ≤ MOST_STEPS) }
         requires goal { IfSome setup.goal (λ goal. (1 ≤ length goal) × (length goal ≤ setup.steps)) }
-        ensures { IfOk result (λ session. session ≡ record { walked = W.walked walk; rules = rules_of (W.walked walk) labels.now setup; sitting = opening }) }
+        ensures { IfOk result (λ session. session ≡ opened (W.walked walk) labels.now setup) }
     {
         let state = State::new(alloc, setup.steps)?;
         let mut offers = Vec::with_capacity(alloc, labels.inputs() as usize)?;
@@ -140,8 +142,22 @@ impl<'a, W: Walk> Session<'a, W> {
     }
 
     /// What was sent and heard so far, as a log. Its ending is that of the verdict where there is
-    /// one, else this.
+    /// one, else this. The log is one in its form, so what is printed of it is read again as it;
+    /// and for whatever events the session was told, the verdict on the log is that of the session.
     pub fn log(&self, alloc: Global, otherwise: Ending) -> Result<Log, Memory>
+        ensures log { IfOk result (λ log. log ≡ log_of self.now.rules self.now.sitting otherwise) }
+        ensures form { IfOk result IsLog }
+        ensures judged { (events : List Told) → IsReading self.now.rules events self.now.sitting → IfOk result (λ log. IsJudged self.now.rules log (verdict_of self.now.sitting.phase)) }
+    {
+        // these calls tell what an alphabet, a walk and the plain part of a session are
+        let _ = self.labels.inputs();
+        let _ = self.walk.begin();
+        let _ = self.state.left();
+        let log = self.told(alloc, otherwise)?;
+        Ok(log)
+    }
+
+    fn told(&self, alloc: Global, otherwise: Ending) -> Result<Log, Memory>
         ensures { IfOk result (λ log. log ≡ log_of self.now.rules self.now.sitting otherwise) }
     {
         let mut entries = entries_of(alloc, self.labels, self.state.items())?;
@@ -199,6 +215,7 @@ impl<'a, W: Walk> Session<'a, W> {
         ensures ok { OnOk result (Takes self.old (told event.now) self.new) }
         ensures err { IfErr result (Refuses self.old (told event.now)) }
         ensures same { OnErr result (self.new ≡ self.old) }
+        ensures steps { steps.new ≤ steps.old + 1 }
     {
         match event {
             Event::Choice(choice) => self.choose(*choice, steps),
@@ -248,6 +265,7 @@ impl<'a, W: Walk> Session<'a, W> {
         ensures ok { OnOk result (Takes self.old (Chosen choice) self.new) }
         ensures err { IfErr result (Refuses self.old (Chosen choice)) }
         ensures same { OnErr result (self.new ≡ self.old) }
+        ensures steps { steps.new ≤ steps.old + 1 }
     {
         match self.offered(choice) {
             Some(a) => {
@@ -310,6 +328,7 @@ impl<'a, W: Walk> Session<'a, W> {
         ensures rules { self.new.rules ≡ self.old.rules }
         ensures err { IfErr result (RefusesShown self.old.rules self.old.walked self.old.sitting.items item) }
         ensures same { OnErr result (self.new ≡ self.old) }
+        ensures steps { steps.new ≤ steps.old + 1 }
     {
         let mode = self.setup.mode;
         if is_shown(&self.walk, self.here, mode, item) {
@@ -328,6 +347,7 @@ impl<'a, W: Walk> Session<'a, W> {
         ensures ok { OnOk result (Takes self.old (Line text.now) self.new) }
         ensures err { IfErr result (Refuses self.old (Line text.now)) }
         ensures same { OnErr result (self.new ≡ self.old) }
+        ensures steps { steps.new ≤ steps.old + 1 }
     {
         match output_of(self.labels, text) {
             Some(output) => {
@@ -348,6 +368,7 @@ impl<'a, W: Walk> Session<'a, W> {
         ensures ok { OnOk result (Takes self.old Idle self.new) }
         ensures err { IfErr result (Refuses self.old Idle) }
         ensures same { OnErr result (self.new ≡ self.old) }
+        ensures steps { steps.new ≤ steps.old + 1 }
     {
         if let Phase::Look(input) = self.state.phase() {
             self.state.turn_to(Phase::Send(input));
@@ -378,7 +399,7 @@ impl<'a, W: Walk> Session<'a, W> {
 
     /// It is done with this verdict, and these bytes are left.
     fn close(&mut self, verdict: Verdict, text: &[u8])
-        requires { length text.now ≤ MOST_LEFT_BYTES }
+        requires { IsWithinLine MOST_LEFT_BYTES text.now }
         ensures sitting { self.new.sitting ≡ record self.old.sitting { phase = Done verdict; left = text.now } }
         ensures walked { self.new.walked ≡ self.old.walked }
         ensures rules { self.new.rules ≡ self.old.rules }

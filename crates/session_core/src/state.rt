@@ -2,7 +2,9 @@
 ghost use Rattle.std.specs.Prelude.{◌≡◌, ℕ, ◌+◌, ◌<◌, ◌≤◌, ◌^◌, List, [], ◌∷◌, ◌++◌, length, Some, None, IfOk};
 ghost use Rattle.std.specs.Option.{option_map};
 ghost use Rattle.log_text.specs.declared.limits.TheConstants.{MOST_TEXT_BYTES, MOST_LEFT_BYTES};
+ghost use Rattle.edge_io.specs.Links.{IsWithinLine};
 ghost use Rattle.session_core.specs.Table.{Sitting, opening};
+ghost use Rattle.session_core.specs.Kept.{IsLoggable};
 ghost use Rattle.session_core.specs.declared.phase.Phase.TheVariants.{Ask, Look, Send, Hear, Done};
 ghost use Rattle.session_core.specs.declared.verdict.Verdict.TheVariants.{Fail, Stalled};
 
@@ -30,13 +32,13 @@ impl Model for State {
     ghost use Rattle.std.specs.Prelude.{◌≤◌, Some, None, if◌then◌else◌, vec_capacity};
     ghost use Rattle.log_text.specs.declared.limits.TheConstants.{MOST_TEXT_BYTES, MOST_LEFT_BYTES};
     ghost use Rattle.session_core.specs.Table.{Sitting};
-    ghost use Rattle.session_core.specs.Kept.{Kept};
+    ghost use Rattle.session_core.specs.Kept.{Kept, IsLoggable};
 
     ghost Value = { Kept };
 
     ghost view = { λ s. record { sitting = record { phase = s.phase; items = s.items.items; idles = s.idles; mid = s.mid; strange = if s.has_strange then Some s.strange.items else None; left = s.left.items }; room = s.room } };
 
-    ghost invariant = { λ s. (s.room ≤ vec_capacity s.items) × (MOST_TEXT_BYTES ≤ vec_capacity s.strange) × (MOST_LEFT_BYTES ≤ vec_capacity s.left) };
+    ghost invariant = { λ s. (s.room ≤ vec_capacity s.items) × (MOST_TEXT_BYTES ≤ vec_capacity s.strange) × (MOST_LEFT_BYTES ≤ vec_capacity s.left) × IsLoggable (record { sitting = record { phase = s.phase; items = s.items.items; idles = s.idles; mid = s.mid; strange = if s.has_strange then Some s.strange.items else None; left = s.left.items }; room = s.room }) };
 }
 
 impl State {
@@ -100,7 +102,8 @@ impl State {
 
     /// The unfinished bytes with which it ended.
     pub(crate) fn left(&self) -> &[u8]
-        ensures { result.now ≡ self.now.sitting.left }
+        ensures left { result.now ≡ self.now.sitting.left }
+        ensures loggable { IsLoggable self.now }
     {
         self.left.as_slice()
     }
@@ -150,7 +153,7 @@ impl State {
 
     /// It is done with this verdict, and these bytes are left.
     pub(crate) fn close(&mut self, verdict: Verdict, text: &[u8])
-        requires { length text.now ≤ MOST_LEFT_BYTES }
+        requires { IsWithinLine MOST_LEFT_BYTES text.now }
         ensures sitting { self.new.sitting ≡ record self.old.sitting { phase = Done verdict; left = text.now } }
         ensures room { self.new.room ≡ self.old.room }
     {
@@ -162,7 +165,8 @@ impl State {
 
     /// Logs an item, goes to a phase, and takes this count of unfinished reads.
     pub(crate) fn log(&mut self, item: Item, mid: u32, phase: Phase)
-        requires { length self.old.sitting.items < self.old.room }
+        requires room { length self.old.sitting.items < self.old.room }
+        requires none { self.old.sitting.strange ≡ None }
         ensures sitting { self.new.sitting ≡ record self.old.sitting { phase = phase; items = self.old.sitting.items ++ item ∷ []; mid = mid } }
         ensures room { self.new.room ≡ self.old.room }
     {
@@ -173,7 +177,8 @@ impl State {
 
     /// It has failed at this place, with a line that is no output.
     pub(crate) fn fail_strange(&mut self, text: &[u8], place: u32)
-        requires { length text.now ≤ MOST_TEXT_BYTES }
+        requires text { IsWithinLine MOST_TEXT_BYTES text.now }
+        requires room { length self.old.sitting.items < self.old.room }
         ensures sitting { self.new.sitting ≡ record self.old.sitting { phase = Done (Fail place); mid = 0; strange = Some text.now } }
         ensures room { self.new.room ≡ self.old.room }
     {

@@ -3,7 +3,7 @@ ghost use Rattle.std.specs.Prelude.{◌≡◌, ℕ, ◌≤◌, List, IfErr};
 ghost use Rattle.edge_io.specs.Links.{KeepsLink, LinkFails};
 ghost use Rattle.session_core.specs.Table.{IsOpen};
 ghost use Rattle.session_core.specs.Fitting.{told};
-ghost use Rattle.session_core.specs.Driven.{told_of, at_once, IsTurned};
+ghost use Rattle.session_core.specs.Driven.{told_of, IsTurnOf};
 
 use crate::event::{Action, Event};
 use crate::session::Session;
@@ -73,7 +73,7 @@ pub fn turn_one<W: Walk, C: Choose, K: Link, L: Ledger>(
     steps: &mut Steps<L>,
 ) -> Result<(), DriveError>
     requires open { IsOpen session.old.sitting.phase }
-    ensures turned { IsTurned C.answer K.gives (at_once session.old chooser.old (K.state link.old) (K.told link.old)) result (at_once session.new chooser.new (K.state link.new) (K.told link.new)) }
+    ensures turned { IsTurnOf C.answer K.gives K.state K.told session.old chooser.old link.old result session.new chooser.new link.new }
     ensures broken { IfErr result (λ e. e ≡ DriveError.Broken → LinkFails (K.told link.old) (K.told link.new)) }
     ensures later { KeepsLink (K.told link.old) (K.told link.new) }
 {

@@ -41,7 +41,7 @@ invariant_of-self-in-Some g c =
     let at = c.self.invariant.0.at (rw asks tt) in
     let allowed = allowed_in w r c.in-Some.a s.items refl offered in
     let next = c.in_ok-self-inside-in-Some.ensures.ok s.items at allowed in (
-      sound_look w (g.W.Walk.walked c.step.new.walk) a c.self.inside.setup c.self.inside.state c.self.inside.here.0 c.self.inside.next.0 c.self.inside.offers.items c.turn_to.new.self c.in-Some.a _ c.step.ensures.system c.step.ensures.kept c.self.invariant.0 asks next c.turn_to.ensures.sitting c.turn_to.ensures.room,
+      sound_look w (g.W.Walk.walked c.step.new.walk) a c.self.inside.setup c.self.inside.state c.self.inside.here.0 c.self.inside.next.0 c.self.inside.offers.items c.turn_to.new.self c.in-Some.a _ c.step.ensures.grows.system c.step.ensures.kept c.self.invariant.0 asks next c.turn_to.ensures.sitting c.turn_to.ensures.room,
       c.self.invariant.1,
     )
 
@@ -56,7 +56,11 @@ returns-in_ok-self-inside-in-Some-clause-ok g c =
     let offered : Offered r s.items c.in-Some.a = rw (← c.self.view_is) at c.in-Some.ensures.2 in
     let at = c.self.invariant.0.at (rw asks tt) in
     let allowed = allowed_in w r c.in-Some.a s.items refl offered in
-    let counts : Counts w v (s.items ++ Input c.in-Some.a ∷ []) = λ traces account. c.in_ok-self-inside-in-Some.ensures.account traces s.items account at allowed in
+    let counts : Counts w v (s.items ++ Input c.in-Some.a ∷ []) = record {
+      grows = c.step.ensures.grows;
+      walk = (c.in_ok-self-inside-in-Some.ensures.ok s.items at allowed).walk;
+      account = λ traces account. c.in_ok-self-inside-in-Some.ensures.account traces s.items account at allowed;
+    } in
     let seat : Seat = record { walked = w; rules = r; sitting = s } in
     let after : Seat = record { walked = v; rules = rules_of v a c.self.inside.setup; sitting = c.turn_to.new.self.sitting } in
-    rw (← c.self.view_is, c.in-Some.ensures.0) (takes_choice seat after c.in-Some.a asks offered counts (rw asks (inl (offered, c.turn_to.ensures.sitting))) (rules_same w v a c.self.inside.setup c.step.ensures.system))
+    rw (← c.self.view_is, c.in-Some.ensures.0) (takes_choice seat after c.in-Some.a asks offered counts (rw asks (inl (offered, c.turn_to.ensures.sitting))) (rules_same w v a c.self.inside.setup c.step.ensures.grows.system))

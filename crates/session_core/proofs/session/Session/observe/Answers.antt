@@ -32,7 +32,7 @@ returns-in_err-next-clause-err g c =
 
 pub invariant_of-self-then-is_shown : goal.invariant_of-self-then-is_shown
 invariant_of-self-then-is_shown g c = (
-  sound_kept (g.W.Walk.walked c.self.inside.walk) (g.W.Walk.walked c.step.new.walk) c.self.inside.labels.now c.self.inside.setup c.self.inside.state c.self.inside.here.0 c.self.inside.next.0 c.self.inside.offers.items c.step.ensures.system c.step.ensures.kept c.self.invariant.0,
+  sound_kept (g.W.Walk.walked c.self.inside.walk) (g.W.Walk.walked c.step.new.walk) c.self.inside.labels.now c.self.inside.setup c.self.inside.state c.self.inside.here.0 c.self.inside.next.0 c.self.inside.offers.items c.step.ensures.grows.system c.step.ensures.kept c.self.invariant.0,
   c.self.invariant.1,
 )
 
@@ -52,7 +52,7 @@ returns-in_ok-next-clause-saw g c =
     let s = c.self.inside.state.sitting in
     let at = c.self.invariant.0.at (rw (← c.self.view_is) at c.requires.open) in
     let settles : Settles r (record s { mid = c.args.mid }) c.args.item c.log_item.new.self.sitting =
-    subst (λ (q : Rules). Settles q (record s { mid = c.args.mid }) c.args.item c.log_item.new.self.sitting) (rules_same w (g.W.Walk.walked c.step.new.walk) a c.self.inside.setup c.step.ensures.system) c.log_item.ensures.settles in
+    subst (λ (q : Rules). Settles q (record s { mid = c.args.mid }) c.args.item c.log_item.new.self.sitting) (rules_same w (g.W.Walk.walked c.step.new.walk) a c.self.inside.setup c.step.ensures.grows.system) c.log_item.ensures.settles in
     rw (← c.self.view_is) (saw_shown r (record s { mid = c.args.mid }) c.log_item.new.self.sitting c.args.item ((c.is_shown.ensures s.items at).0 c.if-is_shown.true) settles)
 
 pub returns-in_ok-next-clause-walk : goal.returns-in_ok-next-clause-walk
@@ -64,7 +64,11 @@ returns-in_ok-next-clause-walk g c =
     let item : IsItemOf w.system c.args.item = rw (← c.self.view_is) at c.requires.item in
     let shown : ShowsAfter w.system s.items c.args.item = (c.is_shown.ensures s.items at).0 c.if-is_shown.true in
     let allowed = seen_allowed w c.self.inside.setup.mode _ s.items c.args.item at item c.requires.seen shown in
-    rw (← c.self.view_is, c.log_item.ensures.walked) (saw_in_shown r w (g.W.Walk.walked c.step.new.walk) s.items c.args.item shown (λ traces account. c.in_ok-next.ensures.account traces s.items account at allowed))
+    rw (← c.self.view_is, c.log_item.ensures.walked) (saw_in_shown r w (g.W.Walk.walked c.step.new.walk) s.items c.args.item shown (record {
+      grows = c.step.ensures.grows;
+      walk = (c.in_ok-next.ensures.ok s.items at allowed).walk;
+      account = λ traces account. c.in_ok-next.ensures.account traces s.items account at allowed;
+    }))
 
 pub returns-else-is_shown-clause-saw : goal.returns-else-is_shown-clause-saw
 returns-else-is_shown-clause-saw g c =
