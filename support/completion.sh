@@ -15,7 +15,7 @@ names() {
 
 # The options of the command $1, or with a second word the branches of a `case` on their values.
 options_of() {
-    part options | awk -v of="$1" '$1 == of || $1 == "*" { printf "%s ", $2 }'
+    part options | awk -v of="$1" '$1 == of { printf "%s ", $2 }'
 }
 
 # The branches of a shell's `case` on an option that has a value: $1 stands before a list of words, $2 after it.

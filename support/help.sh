@@ -30,9 +30,12 @@ overview() {
     echo "'fitsowar help COMMAND' tells all of one command."
 }
 
+# The heading of the options of every command; after `but` it tells the command that has none of them.
+shared=$(sed -n 's/^## \(Options of every command.*\)/\1/p' "$reference")
+
 options() {
-    echo "Options of every command:"
-    part section "Options of every command" items
+    echo "$shared:"
+    part section "$shared" items
 }
 
 if [ "$#" -gt 2 ]; then
@@ -49,6 +52,11 @@ if ! part commands | cut -f 1 | grep -q -x -F -e "$2"; then
 fi
 part section "$2"
 echo
-options
-echo
+case $shared in
+*" but $2") ;;
+*)
+    options
+    echo
+    ;;
+esac
 echo "Exit statuses 3 to 8 are those that 'fitsowar help' lists."

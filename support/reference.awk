@@ -1,7 +1,7 @@
 # Reads docs/COMMANDS.md, from which help, the manual page and the completion are made, and prints by `as`:
 #   commands   a line for each command: its name, a tab, the first sentence on it
 #   overview   the same for a terminal
-#   options    a line for each option: its command (or * for all), its name, what its value is (flag, FILE, N, A|B..)
+#   options    a line for each command and option: the command, the option, what its value is (flag, FILE, N, A|B..)
 #   section    the text of one section for a terminal: that of the command `wanted`, or of the heading `wanted`;
 #              with `only` as items, its list alone
 #   manual     the whole text in man format
@@ -74,6 +74,11 @@ function synopsis_options(text,    inner) {
     }
 }
 
+# The options of every command, but of the one that their heading tells after `but`.
+function shared_options(    i) {
+    for (i = 1; i <= shared_count; i++) if (name != spared) option(name, shared[i])
+}
+
 function heading(text) {
     flush()
     is_command = text ~ /^`[a-z]/
@@ -83,7 +88,9 @@ function heading(text) {
     if (!is_command) name = ""
     is_first = 1
     is_in = wanted == (is_command ? name : title)
-    if (as == "options" && is_command) synopsis_options(title)
+    is_shared = title ~ /^Options of every command/
+    if (is_shared && match(title, / but [a-z]+$/)) spared = substr(title, RSTART + 5)
+    if (as == "options" && is_command) { shared_options(); synopsis_options(title) }
     if (as == "section" && is_in && is_command) { fill("fitsowar " title, "", "    "); is_spaced = 1 }
     if (as == "manual") {
         if (is_command) print ".SS \"" troff(title) "\""
@@ -103,7 +110,8 @@ function paragraph(text,    first) {
 
 function item(text,    head) {
     head = item_head(text)
-    if (as == "options" && (is_command || title ~ /^Options/)) option(is_command ? name : "*", head)
+    if (as == "options" && is_command) option(name, head)
+    if (is_shared) shared[++shared_count] = head
     if (as == "section" && is_in) {
         if (!was_item) space()
         if (head != "") { print "  " head; fill(item_text(text), "      ", "      ") }

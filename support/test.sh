@@ -107,7 +107,7 @@ options_are_known() {
         needed=$(sed -n "s/^## \`$name \(.*\)\`\$/\1/p" "$top/docs/COMMANDS.md" |
             sed -e 's/\[[^]]*\]//g' -e 's/|[^ ]*//g' -e 's/^N /1 /' -e 's/ N / 1 /g' -e 's/ N$/ 1/' -e 's/[A-Z][A-Z]*/no_such_file/g')
         awk -v as=options -f "$top/support/reference.awk" "$top/docs/COMMANDS.md" |
-            awk -v name="$name" '$1 == name || $1 == "*"' > "$room/options"
+            awk -v name="$name" '$1 == name' > "$room/options"
         while read -r _ option value; do
             set --
             [ "$value" = flag ] || set -- "$(echo "$value" | sed -e 's/|.*//' -e 's/^N$/1/')"

@@ -1,5 +1,6 @@
 pub mod CertLaws
 pub mod PrintableLaws
 pub mod OnceLaws
+pub mod UsualLaws
 pub mod FitLaws
 pub mod AskableLaws

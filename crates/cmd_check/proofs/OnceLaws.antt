@@ -1,5 +1,6 @@
 -- `check` has one answer for files whose contents are told.
 use Rattle.std.proofs.Common.{◌≡◌, ◌∙◌, ℕ, List, [], ◌∷◌, inl, inr, refl, sym, ap, subst, arith}
+use Rattle.lts_base.specs.declared.item.Mode.TheVariants.{Ioco}
 use Rattle.lts_base.specs.System.{System, IsSystem, label_count}
 use Rattle.lts_base.specs.Alphabet.{Alphabet, IsOver}
 use Rattle.lts_shape.specs.Inputs.{IsFirstMissing}
@@ -14,7 +15,7 @@ use Rattle.tool_base.proofs.StoppedLaws.{systems_over, systems_sound}
 use Rattle.cmd_check.specs.declared.outcome.CheckOutcome.{CheckOutcome}
 use Rattle.cmd_check.specs.declared.outcome.CheckOutcome.TheVariants.{Conforms, Violates, Undecided, NotEnabled}
 use Rattle.cmd_check.specs.Asked.{AskedCheck, check_sources, limits_asked}
-use Rattle.cmd_check.specs.Check.{outcome_of, IsLacking, IsAble, IsVerdict, AnswersCheck, check_page}
+use Rattle.cmd_check.specs.Check.{outcome_of, IsLacking, IsAble, IsVerdict, IsUsualVerdict, usual_limits, AnswersCheck, check_page}
 
 -- an input that is lacking is lacked by no implementation that is input-enabled
 pub lacking_unable : (asked : AskedCheck) (i : System) (o : CheckOutcome) → IsLacking asked i o → ¬ IsAble asked i
@@ -58,6 +59,12 @@ verdict_once asked a s i o p t u spec imp same (inl one) (inr other) = absurd (l
 verdict_once asked a s i o p t u spec imp same (inr one) (inl other) = absurd (lacking_unable asked i p other.0 one.0)
 verdict_once asked a s i o p t u spec imp same (inr (able, (x, decided, is, text))) (inr (able_too, (y, decided_too, is_too, text_too))) =
     let once = decided_once Conforms Violates Undecided asked.mode (limits_asked asked) i s x y spec imp same decided decided_too in
+    is ∙ (sym (told_is x) ∙ (once ∙ (told_is y ∙ sym is_too)))
+
+-- and one verdict where there are no options
+pub usual_once : (a : Alphabet) (s i : System) (o p : CheckOutcome) (t u : List ℕ) → IsSystem s → IsSystem i → label_count i ≡ label_count s → IsUsualVerdict a s i o t → IsUsualVerdict a s i p u → o ≡ p
+usual_once a s i o p t u spec imp same (x, decided, is, text) (y, decided_too, is_too, text_too) =
+    let once = decided_once Conforms Violates Undecided Ioco usual_limits i s x y spec imp same decided decided_too in
     is ∙ (sym (told_is x) ∙ (once ∙ (told_is y ∙ sym is_too)))
 
 -- the systems of the files are sound, and have as many labels

@@ -1,9 +1,12 @@
 -- Promise: what `check` answers, and when.
 use Rattle.std.specs.Prelude.{◌≡◌, true, ℕ, List, [], ◌∷◌, ◌++◌, codes, decimal, length, ◌⊎◌, if◌then◌else◌}
 use Rattle.lts_base.specs.declared.item.Mode.{Mode}
+use Rattle.lts_base.specs.declared.item.Mode.TheVariants.{Ioco}
+use Rattle.lts_base.specs.declared.limits.TheConstants.{USUAL_PAIRS, USUAL_MEMBERS}
 use Rattle.lts_base.specs.Alphabet.{Alphabet, text_at}
 use Rattle.lts_base.specs.Shape.{IsInputEnabled}
 use Rattle.lts_base.specs.System.{System}
+use Rattle.lts_base.specs.Reached.{Limits}
 use Rattle.lts_shape.specs.Inputs.{IsFirstMissing}
 use Rattle.conf_decide.specs.declared.answer.Answer.{Answer}
 use Rattle.conf_decide.specs.declared.answer.Answer.TheVariants.{Conforms as Related, Violates as Broken, Undecided as Cut}
@@ -67,6 +70,15 @@ abbrev pub IsVerdict : AskedCheck → Alphabet → System → System → CheckOu
 IsVerdict asked a s i outcome text = (IsLacking asked i outcome × (text ≡ check_text a.texts outcome)) ⊎
     (IsAble asked i × ((answer : Answer) × IsDecided asked.mode (limits_asked asked) i s answer × (outcome ≡ outcome_of answer) ×
     (text ≡ answer_text asked a.texts answer)))
+
+-- the limits of a decision where no number is given
+abbrev pub usual_limits : Limits
+usual_limits = record { pairs = USUAL_PAIRS; imp = USUAL_MEMBERS; spec = USUAL_MEMBERS }
+
+-- the same where there are no options: the right decision by ioco within the usual limits, with its usual text
+abbrev pub IsUsualVerdict : Alphabet → System → System → CheckOutcome → List ℕ → Type 0
+IsUsualVerdict a s i outcome text =
+    (answer : Answer) × IsDecided Ioco usual_limits i s answer × (outcome ≡ outcome_of answer) × (text ≡ check_text a.texts outcome)
 
 -- the answer and its text for the files
 pub record AnswersCheck (contents : Contents) (asked : AskedCheck) (outcome : CheckOutcome) (text : List ℕ) : Type 0 where

@@ -21,7 +21,7 @@ use Rattle.tool_base.specs.declared.systems.TwoSystems.{TwoSystems}
 use Rattle.cmd_check.specs.declared.decision.Found.{Found}
 use Rattle.cmd_check.specs.declared.decision.Found.TheVariants.{Whole, Told}
 use Rattle.cmd_check.specs.Asked.{AskedCheck, limits_asked}
-use Rattle.cmd_check.specs.Check.{IsAble, IsVerdict, outcome_of, check_text}
+use Rattle.cmd_check.specs.Check.{IsAble, IsVerdict, IsUsualVerdict, outcome_of, check_text}
 use Rattle.cmd_check.specs.declared.outcome.CheckOutcome.{CheckOutcome}
 use Rattle.cmd_check.specs.declared.outcome.CheckOutcome.TheVariants.{Conforms, Violates, Undecided, NotEnabled}
 
@@ -79,6 +79,10 @@ cert_stated mode texts body = printed texts (record { mode = mode; body = body }
 -- the report is the right one for these systems, with its text
 abbrev pub IsReportOn : AskedCheck → TwoSystems → Report CheckOutcome → Type 0
 IsReportOn asked both report = IsVerdict asked both.labels both.first both.second report.outcome report.text
+
+-- the same where there are no options
+abbrev pub IsUsualReportOn : TwoSystems → Report CheckOutcome → Type 0
+IsUsualReportOn both report = IsUsualVerdict both.labels both.first both.second report.outcome report.text
 
 -- a verdict, as `check` answers it
 abbrev pub outcome_told : Verdict → CheckOutcome

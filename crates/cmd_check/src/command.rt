@@ -6,17 +6,19 @@ ghost use Rattle.tool_base.specs.Pages.{Answers, IsOnPage};
 ghost use Rattle.tool_base.specs.Loaded.{AreTwoOver};
 ghost use Rattle.cmd_check.specs.Asked.{check_from};
 ghost use Rattle.cmd_check.specs.Check.{check_command, check_page};
-ghost use Rattle.cmd_check.specs.Printable.{IsMissing, IsReportOn};
+ghost use Rattle.cmd_check.specs.Printable.{IsMissing, IsReportOn, IsUsualReportOn};
 
 use crate::decision::{Found, decision};
 use crate::outcome::CheckOutcome;
 use crate::report::{lacking, usual, whole};
 use crate::words::{Check, read_check};
 use edge_io::Files;
-use lts_base::{Lts, Memory};
+use lts_base::limits::{USUAL_MEMBERS, USUAL_PAIRS};
+use lts_base::{Divergence, Lts, Memory, Mode};
 use lts_shape::missing_input;
 use std::alloc::Global;
 use tool_base::{Report, Stop, TwoSystems, two_systems, words_stop};
+use torx_words::Sorting;
 
 /// Does what the words after `check` ask for, with these files.
 pub fn check<F: Files>(
@@ -55,6 +57,26 @@ fn on_files<F: Files>(
     )?;
     let report = report(alloc, asked, &both)?;
     Ok(report)
+}
+
+/// The report on two systems over their alphabet, the specification first, where there are no
+/// options: by ioco, within the usual limits, and without a certificate.
+pub fn usual_report(alloc: Global, both: &TwoSystems) -> Result<Report<CheckOutcome>, Memory>
+    requires over { AreTwoOver both.now }
+    ensures { IfOk result (IsUsualReportOn both.now) }
+{
+    let asked = Check {
+        sorting: Sorting::Prefix,
+        divergence: Divergence::Refuse,
+        mode: Mode::Ioco,
+        enabled: false,
+        cert: false,
+        pairs: USUAL_PAIRS,
+        members: USUAL_MEMBERS,
+        spec: "",
+        imp: "",
+    };
+    report(alloc, &asked, both)
 }
 
 /// The report on two systems over their alphabet, the specification first.

@@ -8,5 +8,5 @@ mod report;
 mod text;
 mod words;
 
-pub use command::check;
+pub use command::{check, usual_report};
 pub use outcome::CheckOutcome;

@@ -18,8 +18,9 @@ use Rattle.cmd_verify.proofs.OnceLaws.{verify_once}
 use Rattle.cmd_outs.proofs.OnceLaws.{outs_once}
 use Rattle.cmd_angelic.proofs.OnceLaws.{angelic_once}
 use Rattle.cmd_replay.proofs.OnceLaws.{replay_once, migrate_once}
+use Rattle.cmd_demo.proofs.OnceLaws.{demo_once}
 use Rattle.torx_tool.specs.declared.commands.Name.{Name}
-use Rattle.torx_tool.specs.declared.commands.Name.TheVariants.{Check, Verify, Outs, Angelic, Replay, Migrate}
+use Rattle.torx_tool.specs.declared.commands.Name.TheVariants.{Check, Verify, Outs, Angelic, Replay, Migrate, Demo}
 use Rattle.torx_tool.specs.declared.status.Status.{Status}
 use Rattle.torx_tool.specs.declared.status.Status.TheVariants.{Usage}
 use Rattle.torx_tool.specs.Commands.{named, Row, row}
@@ -140,6 +141,7 @@ row_once Outs contents x told = outs_once contents x told
 row_once Angelic contents x told = angelic_once contents x told
 row_once Replay contents x told = replay_once contents x told
 row_once Migrate contents x told = migrate_once contents x told
+row_once Demo contents x told = demo_once contents x
 
 exact_name : (name : Option Name) (words : List (List ℕ)) (old new : ToldFiles) (report : Report Status) → ReportsBy name words old new report → IsByName name old.content words report.outcome
 exact_name (Some name) words old new report h = exact (row name).command (row name).status words old new report (row_once name old.content) h

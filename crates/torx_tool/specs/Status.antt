@@ -4,6 +4,8 @@ use Rattle.tool_base.specs.declared.refusal.Refusal.{Refusal}
 use Rattle.tool_base.specs.declared.refusal.Refusal.TheVariants.{TooLong as LongFile, BadFile as FaultyFile, BadLabels as FaultyLabels, Divergent as Diverging, FileFault as UnreadFile}
 use Rattle.cmd_check.specs.declared.outcome.CheckOutcome.{CheckOutcome}
 use Rattle.cmd_check.specs.declared.outcome.CheckOutcome.TheVariants.{Conforms as Conforming, Violates as Violating, Undecided as Cut, NotEnabled as Lacking}
+use Rattle.cmd_demo.specs.declared.outcome.DemoOutcome.{DemoOutcome}
+use Rattle.cmd_demo.specs.declared.outcome.DemoOutcome.TheVariants.{NoSize, Decided}
 use Rattle.cmd_verify.specs.declared.outcome.VerifyOutcome.{VerifyOutcome}
 use Rattle.cmd_verify.specs.declared.outcome.VerifyOutcome.TheVariants.{Accepted as Verified, Rejected as Unverified}
 use Rattle.cmd_outs.specs.declared.outcome.OutsOutcome.{OutsOutcome}
@@ -13,6 +15,7 @@ use Rattle.cmd_angelic.specs.declared.outcome.AngelicOutcome.TheVariants.{Printe
 use Rattle.log_report.specs.declared.replayed.ReplayOutcome.{ReplayOutcome}
 use Rattle.log_report.specs.declared.migrated.MigrateOutcome.{MigrateOutcome}
 use Rattle.log_report.specs.declared.migrated.MigrateOutcome.TheVariants.{Printed as Migrated, NotOf as NotMigrated}
+use Rattle.torx_words.specs.declared.kind.UsageKind.TheVariants.{Value}
 use Rattle.torx_tool.specs.declared.status.LimitWhat.TheVariants.{Moves}
 use Rattle.torx_tool.specs.declared.status.Status.{Status}
 use Rattle.torx_tool.specs.declared.status.Status.TheVariants.{Conforms, Violates, Undecided, Accepted, Rejected, Printed, Absent, Replayed, NotOf, Limit, Usage, TooLong, BadFile, BadLabels, Divergent, NotEnabled, FileFault, OutFault, Memory}
@@ -67,6 +70,10 @@ migrate_status (NotMigrated log) = NotOf log
 abbrev pub angelic_status : AngelicOutcome → Status
 angelic_status Completed = Printed
 angelic_status (TooManyMoves reached) = Limit Moves reached
+
+abbrev pub demo_status : DemoOutcome → Status
+demo_status NoSize = Usage Value
+demo_status (Decided decision) = check_status decision
 
 abbrev pub refusal_status : Refusal → Status
 refusal_status (LongFile name) = TooLong name

@@ -8,6 +8,7 @@ use crate::answer::stopped;
 use crate::status::{Outcome, Status};
 use cmd_angelic::angelic;
 use cmd_check::check;
+use cmd_demo::demo;
 use cmd_outs::outs;
 use cmd_replay::{migrate, replay};
 use cmd_verify::verify;
@@ -30,6 +31,8 @@ pub enum Name {
     Replay,
     /// `migrate`.
     Migrate,
+    /// `demo`.
+    Demo,
 }
 
 /// The command of this name.
@@ -48,6 +51,8 @@ pub fn command_named(word: &str) -> Option<Name>
         Some(Name::Replay)
     } else if word == "migrate" {
         Some(Name::Migrate)
+    } else if word == "demo" {
+        Some(Name::Demo)
     } else {
         None
     }
@@ -70,6 +75,7 @@ pub fn command_report<F: Files>(
         Name::Angelic => reported(alloc, angelic(alloc, files, words)),
         Name::Replay => reported(alloc, replay(alloc, files, words)),
         Name::Migrate => reported(alloc, migrate(alloc, files, words)),
+        Name::Demo => reported(alloc, demo(alloc, words)),
     }
 }
 

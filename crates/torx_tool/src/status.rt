@@ -1,11 +1,12 @@
 //! The answers of the program, and their exit statuses.
 ghost use Rattle.std.specs.Prelude.{◌≡◌};
 ghost use Rattle.torx_tool.specs.declared.status.Status.{Status as TheStatus};
-ghost use Rattle.torx_tool.specs.Status.{code_of, check_status as status_of_check, verify_status as status_of_verify, outs_status as status_of_outs, angelic_status as status_of_angelic, replay_status as status_of_replay, migrate_status as status_of_migrate, replayed_code as code_of_replay, refusal_status as status_of_refusal};
+ghost use Rattle.torx_tool.specs.Status.{code_of, check_status as status_of_check, verify_status as status_of_verify, outs_status as status_of_outs, angelic_status as status_of_angelic, replay_status as status_of_replay, migrate_status as status_of_migrate, demo_status as status_of_demo, replayed_code as code_of_replay, refusal_status as status_of_refusal};
 
 use cert_check::Checked;
 use cmd_angelic::AngelicOutcome;
 use cmd_check::CheckOutcome;
+use cmd_demo::DemoOutcome;
 use cmd_outs::OutsOutcome;
 use cmd_replay::{MigrateOutcome, ReplayOutcome};
 use cmd_verify::VerifyOutcome;
@@ -241,6 +242,19 @@ impl Outcome for MigrateOutcome {
         match self {
             MigrateOutcome::Printed => Status::Printed,
             MigrateOutcome::NotOf { log } => Status::NotOf { log },
+        }
+    }
+}
+
+impl Outcome for DemoOutcome {
+    ghost due = { status_of_demo };
+
+    fn status(self) -> Status {
+        match self {
+            DemoOutcome::NoSize => Status::Usage {
+                kind: UsageKind::Value,
+            },
+            DemoOutcome::Decided(decision) => decision.status(),
         }
     }
 }

@@ -110,6 +110,32 @@ angelic a --marks suffix | fault a\n | 5
 angelic --divergence quiet -- a | fault a\n | 5
 "#;
 
+/// The command that needs no files.
+const DEMO: &str = r#"
+demo 2 | demo n=2\nconforms pairs=5\n | 0
+demo 4 | demo n=4\nconforms pairs=13\n | 0
+demo 00004 | demo n=4\nconforms pairs=13\n | 0
+demo -- 4 | demo n=4\nconforms pairs=13\n | 0
+demo 4000 | demo n=4000\nconforms pairs=15997\n | 0
+demo 1 | usage value\n | 3
+demo 4001 | usage value\n | 3
+demo four | usage value\n | 3
+demo '' | usage value\n | 3
+demo - | usage value\n | 3
+demo -- -4 | usage value\n | 3
+demo -4 | usage words\n | 3
+demo | usage words\n | 3
+demo 4 4 | usage words\n | 3
+demo --pairs 9 4 | usage words\n | 3
+demo --marks prefix 4 | usage words\n | 3
+demo 1 --uioco | usage words\n | 3
+"#;
+
+#[test]
+fn decides_without_files(rt: HostRuntime) -> Result<(), Fail> {
+    answers(&rt, rt.alloc(), "", DEMO)
+}
+
 #[test]
 fn refuses_words(rt: HostRuntime) -> Result<(), Fail> {
     answers(&rt, rt.alloc(), "", NO_COMMAND)?;

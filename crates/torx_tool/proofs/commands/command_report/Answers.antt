@@ -17,3 +17,6 @@ returns-in-Replay-clause-report g c = rw c.in-Replay.is (c.replay.result, c.repl
 
 pub returns-in-Migrate-clause-report : goal.returns-in-Migrate-clause-report
 returns-in-Migrate-clause-report g c = rw c.in-Migrate.is (c.migrate.result, c.migrate.ensures.answers, c.reported-in-Migrate.ensures)
+
+pub returns-in-Demo-clause-report : goal.returns-in-Demo-clause-report
+returns-in-Demo-clause-report g c = rw c.in-Demo.is (c.demo.result, c.demo.ensures _ _, c.reported-in-Demo.ensures)

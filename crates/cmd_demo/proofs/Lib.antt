@@ -1,0 +1,2 @@
+pub mod SystemLaws
+pub mod OnceLaws

@@ -1,0 +1,4 @@
+pub mod Size
+pub mod Systems
+pub mod Demo
+pub mod Named
