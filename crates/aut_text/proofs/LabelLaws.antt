@@ -1,15 +1,16 @@
 -- Laws on lists of distinct label texts.
 use Rattle.std.proofs.Common.{◌≡◌, ◌∙◌, ℕ, zero, suc, ◌+◌, ◌<◌, Bool, false, List, [], ◌∷◌, ◌++◌, length, map, get_or, inl, inr, Some, refl, sym, ap, arith, ◌||◌}
-use Rattle.std.specs.List.{list_any, position, position_or_len}
+use Rattle.std.specs.List.{list_any, position, position_or_len, slice_get}
 use Rattle.std.specs.Str.{bytes_eq}
 use Rattle.std.proofs.lemmas.List.{get_or_append_left, get_or_push, length_push, length-map, get_or-map, map_push}
 use Rattle.indexmap.specs.IndexSet.{insert_key}
 use Rattle.std.proofs.lemmas.List.Elements.{All-push}
 use Rattle.std.proofs.lemmas.List.Quantifiers.{position-Some}
+use Rattle.std.proofs.lemmas.Option.{slice_get_within, get_or_from_slice_get}
 use Rattle.std.proofs.lemmas.Bool.{cases_lt, cases_Bool, false≢true}
 use Rattle.std.proofs.lemmas.Slice.Eq.{bytes_eq-Decides}
 use Rattle.lts_base.specs.Alphabet.{IsLabel, text_at}
-use Rattle.aut_text.specs.Parts.{Lacks, AreTexts}
+use Rattle.aut_text.specs.Parts.{IsAt, Lacks, AreTexts}
 
 -- where a text is found among keys, it stands in the list of their texts
 pub found_at : {K : Type 0} (f : K → List ℕ) (text : List ℕ) (ks : List K) (i : ℕ) → position (λ k. bytes_eq text (f k)) ks ≡ Some i → (i < length (map f ks)) × (text_at (map f ks) i ≡ text)
@@ -68,3 +69,9 @@ pub texts_after : {K : Type 0} (f : K → List ℕ) (ks new : List K) (k : K) �
 texts_after f ks new k is lacks =
     let none : list_any (λ y. bytes_eq (f k) (f y)) ks ≡ false = none-from_Lacks f (f k) ks lacks in
     rw is (rw none (map_push f ks k))
+
+-- the key at a place has the text at that place
+pub key_at : {K : Type 0} (f : K → List ℕ) (text : List ℕ) (ks : List K) (i : ℕ) (k : K) → Some k ≡ slice_get ks i → f k ≡ text → IsAt (map f ks) text i
+key_at f text ks i k found same =
+    let below : i < length ks = slice_get_within ks i k (sym found) in
+    (rw length-map below, get_or-map f ks i k [] below ∙ ap f (get_or_from_slice_get ks i k k (sym found)) ∙ same)

@@ -7,6 +7,7 @@ pub mod PrintLaws
 pub mod OnceLaws
 pub mod FaultLaws
 pub mod SpellingLaws
+pub mod PlainLaws
 pub mod AgainLaws
 pub mod SplitLaws
 pub mod RawOnce

@@ -5,7 +5,7 @@ use Rattle.std.proofs.lemmas.Bool.{cases_lt}
 use Rattle.lts_base.specs.declared.raw.RawMove.{RawMove}
 use Rattle.lts_base.specs.Alphabet.{text_at}
 use Rattle.lts_base.specs.Raw.{Carries}
-use Rattle.aut_text.specs.Parts.{Parts, NamedMove, IsParts, AreTexts, IsNumber, AddsMove, named}
+use Rattle.aut_text.specs.Parts.{Parts, NamedMove, IsParts, AreTexts, IsAt, IsNumber, AddsMove, named}
 
 pub Carries-keep : (moves : List RawMove) (m : RawMove) (k a : ℕ) → Carries moves k a → Carries (moves ++ m ∷ []) k a
 Carries-keep moves m k a (below, at) =
@@ -143,3 +143,7 @@ IsNumber-at old new text n (inr (longer, last, lacks)) = rw longer (get_or_push 
 -- the move that names the text by its number
 pub named_at : (old new : List (List ℕ)) (text : List ℕ) (n from to : ℕ) → IsNumber old new text n → named new (record { from = from; label = Some n; to = to }) ≡ record { from = from; label = Some text; to = to }
 named_at old new text n from to is = ap {A = List ℕ} {B = NamedMove} (λ t. record { from = from; label = Some t; to = to }) (IsNumber-at old new text n is)
+
+-- a move whose label stands in the list
+pub Suits-known : (p : Parts) (m : RawMove) (text : List ℕ) (n : ℕ) → IsParts p → length p.moves < 2 ^ 32 - 1 → IsAt p.labels text n → m.label ≡ Some n → Suits p m p.labels
+Suits-known p m text n are few (below, at) is = Suits-label p m p.labels text n are few (record { texts = are.labels.texts; distinct = are.labels.distinct }) (inl (refl, below, at)) is

@@ -38,6 +38,10 @@ pub record AreTexts (labels : List (List ℕ)) : Type 0 where
   pub texts : All IsLabel labels
   pub distinct : (j k : ℕ) → j < k → k < length labels → ¬ (text_at labels j ≡ text_at labels k)
 
+-- the text stands at the place n
+abbrev pub IsAt : List (List ℕ) → List ℕ → ℕ → Type 0
+IsAt labels text n = (n < length labels) × (text_at labels n ≡ text)
+
 -- n is the place of the text, which stood there before or is new at the end
 abbrev pub IsNumber : List (List ℕ) → List (List ℕ) → List ℕ → ℕ → Type 0
 IsNumber old new text n = ((new ≡ old) × (n < length old) × (text_at old n ≡ text)) ⊎ ((new ≡ old ++ text ∷ []) × (n ≡ length old) × Lacks old text)

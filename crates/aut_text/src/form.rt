@@ -71,7 +71,8 @@ fn is_quoted(text: &[u8]) -> bool
     text[text.len() - 1] == b'"'
 }
 
-fn label_in(middle: &[u8]) -> &[u8]
+/// The label between a move's commas.
+pub(crate) fn label_in(middle: &[u8]) -> &[u8]
     ensures { result.now ≡ form.label_in middle.now }
 {
     let text = trim(middle);

@@ -1,18 +1,26 @@
 //! The labels of the moves read so far, each found by its text.
-ghost use Rattle.std.specs.Prelude.{◌≡◌, ◌^◌, ◌<◌, [], ◌∷◌, ◌++◌, length, IfOk, OnErr};
+ghost use Rattle.std.specs.Prelude.{◌≡◌, ◌^◌, ◌<◌, [], ◌∷◌, ◌++◌, length, IfOk, IfSome, IsTrue, OnErr};
 ghost use Rattle.lts_base.specs.Alphabet.{IsLabel};
-ghost use Rattle.aut_text.specs.Parts.{AreTexts, IsNumber, Lacks};
+ghost use Rattle.aut_text.specs.Parts.{AreTexts, IsAt, IsNumber, Lacks};
 
 use indexmap::IndexSet;
 use lts_base::{Memory, Text, Texts};
 use std::alloc::Global;
 use std::marker::Model;
 
+/// How many places are kept of labels that were asked for.
+const SLOTS: usize = 1_024;
+
+/// How many bytes of a label choose its slot.
+const SLOT_BYTES: usize = 16;
+
 /// Distinct labels in the order in which they were first asked for.
 #[derive(Drop)]
 pub struct LabelTable {
     alloc: Global,
     texts: IndexSet<Vec<u8>>,
+    // the place of a label that was asked for, for each slot; each is compared before it is used
+    recent: [u32; SLOTS],
 }
 
 impl Model for LabelTable {
@@ -34,6 +42,35 @@ impl LabelTable {
         LabelTable {
             alloc,
             texts: IndexSet::new(alloc),
+            recent: [0; SLOTS],
+        }
+    }
+
+    /// The place of the text, where it is in the table.
+    pub fn known(&mut self, text: &[u8]) -> Option<u32>
+        requires few { length self.old < 2 ^ 32 }
+        ensures found { IfSome result (IsAt self.old text.now) }
+        ensures same { self.new ≡ self.old }
+    {
+        let slot = slot_of(text);
+        let place = self.recent[slot];
+        if self.stands_at(place, text) {
+            return Some(place);
+        }
+        let Some(found) = self.texts.get_index_of(text) else {
+            return None;
+        };
+        self.recent[slot] = found as u32;
+        Some(found as u32)
+    }
+
+    /// Whether the text stands at this place.
+    fn stands_at(&self, place: u32, text: &[u8]) -> bool
+        ensures { IsTrue result → IsAt self.now text.now place }
+    {
+        match self.texts.get_index(place as usize) {
+            Some(key) => key.as_slice() == text,
+            None => false,
         }
     }
 
@@ -74,4 +111,15 @@ impl LabelTable {
         }
         Ok(texts)
     }
+}
+
+/// The slot of a label, from its length and its first bytes.
+fn slot_of(text: &[u8]) -> usize
+    ensures { result < 1_024 }
+{
+    let mut slot = (text.len() % SLOTS) as u32;
+    for byte in text.iter().take(SLOT_BYTES) {
+        slot = slot.wrapping_mul(31).wrapping_add(*byte as u32);
+    }
+    slot as usize % SLOTS
 }

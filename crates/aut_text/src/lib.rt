@@ -7,6 +7,7 @@ mod header;
 mod labels;
 mod line;
 mod parts;
+mod plain;
 mod printer;
 mod reader;
 

@@ -1,6 +1,6 @@
 //! The line of a move.
 ghost use Rattle.lts_base.specs.declared.limits.TheConstants.{MOST_LABEL_BYTES, MOST_LINE_BYTES, MOST_STATES};
-ghost use Rattle.std.specs.Prelude.{◌≡◌, ◌≤◌, ◌<◌, true, length, option_map, MatchResult};
+ghost use Rattle.std.specs.Prelude.{◌≡◌, ◌≤◌, ◌<◌, true, length, option_map, IsTrue, IsFalse, MatchResult};
 ghost use Rattle.lts_base.specs.Alphabet.{IsLabel};
 ghost use Rattle.text_scan.specs.Lines as lines;
 ghost use Rattle.aut_text.specs.Parts.{named_moves};
@@ -10,8 +10,9 @@ ghost use Rattle.aut_text.specs.Faults.{IsLineFault};
 ghost use Rattle.aut_text.specs.Reading.{IsNextMove, AddsLine};
 
 use crate::error::AutError;
-use crate::form::move_of;
+use crate::form::{label_in, move_of};
 use crate::parts::RawParts;
+use crate::plain::plain_parts;
 use lts_base::limits::{MOST_LABEL_BYTES, MOST_LINE_BYTES, MOST_MOVES};
 use std::str;
 use text_scan::{trim, without_cr};
@@ -30,6 +31,33 @@ pub(crate) fn add_line(
     number: u32,
     states: u64,
 ) -> Result<(), AutError>
+    requires { states ≤ MOST_STATES }
+    ensures { MatchResult result (λ _. AddsLine states line.now (named_moves parts.old) (named_moves parts.new)) (λ e. (grammar.is_text line.now ≡ true) × IsLineFault states (length parts.old.moves) line.now number e) }
+{
+    if add_plain(parts, line, states) {
+        return Ok(());
+    }
+    add_text(parts, line, number, states)
+}
+
+/// Adds the move of a line in the plain form, whose label is that of a move before it or Tau; false
+/// where the line is another.
+fn add_plain(parts: &mut RawParts, line: &[u8], states: u64) -> bool
+    requires { states ≤ MOST_STATES }
+    ensures added { IsTrue result → AddsLine states line.now (named_moves parts.old) (named_moves parts.new) }
+    ensures not { IsFalse result → parts.new ≡ parts.old }
+{
+    if line.len() > MOST_LINE_BYTES || parts.count() >= MOST_MOVES as usize {
+        return false;
+    }
+    let Some((from, middle, to)) = plain_parts(without_cr(line), states) else {
+        return false;
+    };
+    parts.push_known(from as u32, visible(label_in(middle)), to as u32)
+}
+
+/// Adds the move of line `number`, whatever its form, unless the line is blank.
+fn add_text(parts: &mut RawParts, line: &[u8], number: u32, states: u64) -> Result<(), AutError>
     requires { states ≤ MOST_STATES }
     ensures { MatchResult result (λ _. AddsLine states line.now (named_moves parts.old) (named_moves parts.new)) (λ e. (grammar.is_text line.now ≡ true) × IsLineFault states (length parts.old.moves) line.now number e) }
 {

@@ -1,5 +1,5 @@
 //! Moves and the labels that they carry, as they are read.
-ghost use Rattle.std.specs.Prelude.{◌≡◌, ◌^◌, ◌-◌, ◌<◌, [], length, Some, None, option_map, IfSome, IfOk, OnOk, OnErr};
+ghost use Rattle.std.specs.Prelude.{◌≡◌, ◌^◌, ◌-◌, ◌<◌, [], length, Some, None, option_map, IfSome, IfOk, IsTrue, IsFalse, OnOk, OnErr};
 ghost use Rattle.lts_base.specs.Alphabet.{IsLabel};
 ghost use Rattle.aut_text.specs.Parts.{IsParts, AddsMove};
 
@@ -54,6 +54,40 @@ impl RawParts {
             None => self.push_tau(from, to),
             Some(text) => self.push_labelled(from, text, to),
         }
+    }
+
+    /// Appends a move whose label is that of a move before it, or which has none; false where there
+    /// is no such label, or no memory.
+    pub fn push_known(&mut self, from: u32, label: Option<&[u8]>, to: u32) -> bool
+        requires few { length self.old.moves < 2 ^ 32 - 1 }
+        ensures added { IsTrue result → AddsMove self.old self.new (record { from = from; label = option_map (λ text. text.now) label.entry; to = to }) }
+        ensures known { IsTrue result → IfSome (option_map (λ text. text.now) label.entry) IsLabel }
+        ensures not { IsFalse result → self.new ≡ self.old }
+    {
+        match label {
+            None => self.push_tau(from, to).is_ok(),
+            Some(text) => self.push_known_label(from, text, to),
+        }
+    }
+
+    fn push_known_label(&mut self, from: u32, text: &[u8], to: u32) -> bool
+        requires few { length self.old.moves < 2 ^ 32 - 1 }
+        ensures added { IsTrue result → AddsMove self.old self.new (record { from = from; label = Some text.now; to = to }) }
+        ensures known { IsTrue result → IsLabel text.now }
+        ensures not { IsFalse result → self.new ≡ self.old }
+    {
+        if self.moves.reserve(1).is_err() {
+            return false;
+        }
+        let Some(label) = self.labels.known(text) else {
+            return false;
+        };
+        self.moves.push_reserved(RawMove {
+            from,
+            label: Some(label),
+            to,
+        });
+        true
     }
 
     fn push_tau(&mut self, from: u32, to: u32) -> Result<(), Memory>

@@ -1,15 +1,19 @@
 -- The order in which a system's moves are sorted is the one in which moves compare.
-use Rattle.std.proofs.Common.{◌≡◌, ℕ, ◌+◌, ◌<◌, ◌≤◌, List, get_or, false, refl, sym, ◌∙◌, ap, subst, arith, inl, inr, ◌⊎◌}
-use Rattle.std.specs.List.Sorted.{IsSorted}
-use Rattle.std.specs.Ordering.{is_lt, nat_cmp, ordering_then}
+use Rattle.std.proofs.Common.{drop_of_length-le, ◌≡◌, ℕ, ◌+◌, ◌<◌, ◌≤◌, Bool, List, [], ◌++◌, length, take, drop, Option, get_or, true, false, refl, sym, ◌∙◌, ap, subst, arith, inl, inr, ◌⊎◌}
+use Rattle.std.specs.List.{IsAllAdjacentAnswer}
+use Rattle.std.specs.List.Sorted.{IsSorted, IsPermutation}
+use Rattle.std.specs.Ordering.{is_le, is_lt, is_some_and, partial_le, nat_cmp, ordering_reverse, ordering_then}
 use Rattle.std.specs.Cmp.{nat_cmp_is}
 use Rattle.std.specs.declared.cmp.Ordering.{Ordering}
 use Rattle.std.specs.declared.cmp.Ordering.TheVariants.{Less, Equal, Greater}
 use Rattle.std.proofs.lemmas.Bool.{cases_order, false≢true}
-use Rattle.std.proofs.lemmas.List.Sorted.{sorted_far, ranks_by}
+use Rattle.std.proofs.Math.Seq.{take-length}
+use Rattle.std.proofs.lemmas.List.{append-nil}
+use Rattle.std.proofs.lemmas.List.Sorted.{sorted_far, ranks_by, length_permutation}
 use Rattle.std.proofs.lemmas.Map.Keys.{ge_from_not_lt}
 use Rattle.lts_base.specs.contracts.action.MoveOrd.TheImpl.{cmp-value}
-use Rattle.lts_base.specs.contracts.action.MoveOrd.TheImpl.Laws.{total-law}
+use Rattle.lts_base.specs.contracts.action.MovePartialOrd.TheImpl.{partial_cmp-value}
+use Rattle.lts_base.specs.contracts.action.MoveOrd.TheImpl.Laws.{total-law, matches_partial_cmp-law}
 use Rattle.lts_base.specs.declared.action.Act.{Act}
 use Rattle.lts_base.specs.declared.action.Act.TheVariants.{Tau, Label}
 use Rattle.lts_base.specs.declared.action.Move.{Move}
@@ -112,3 +116,33 @@ AreSorted-from_sort ms sorted = λ j k d lt below.
 -- sorted moves are in the order in which moves compare
 pub AreSorted-as_sort : (ms : List Move) → AreSorted ms → IsSorted cmp-value.it ms
 AreSorted-as_sort ms sorted = λ k d low below. at_most_to (get_or ms k d) (get_or ms (k + 1) d) (sorted k (k + 1) d (omega arith) below)
+
+-- where the first move compares as less or equal, it is the same or comes before the second
+pub at_most_tested : (x y : Move) → is_le (cmp-value.it x y) ≡ true → IsMoveAtMost x y
+at_most_tested x y le = at_most_from x y (ap is_lt (total-law.antisymm y x) ∙ back (cmp-value.it x y) le)
+  where
+    back : (o : Ordering) → is_le o ≡ true → is_lt (ordering_reverse o) ≡ false
+    back Less e = refl
+    back Equal e = refl
+    back Greater e = absurd (false≢true e)
+
+-- where a test of each element and the next said yes, each was answered so
+pub each_adjacent : {X : Type 0} (E : X → X → Bool → Type 0) (xs : List X) (r : Bool) → r ≡ true → IsAllAdjacentAnswer E xs r → (k : ℕ) (d : X) → k + 1 < length xs → E (get_or xs k d) (get_or xs (k + 1) d) true
+each_adjacent E xs true is answer = answer
+each_adjacent E xs false is answer = absurd (false≢true is)
+
+-- moves of which each compares as less or equal to the next are sorted
+pub AreSorted-tested : (ms : List Move) → ((k : ℕ) (d : Move) → k + 1 < length ms → is_le (cmp-value.it (get_or ms k d) (get_or ms (k + 1) d)) ≡ true) → AreSorted ms
+AreSorted-tested ms each = AreSorted-from_sort ms (λ k d low below. at_most_to (get_or ms k d) (get_or ms (k + 1) d) (at_most_tested (get_or ms k d) (get_or ms (k + 1) d) (each k d below)))
+
+-- moves compare in part as they compare
+pub partly_at_most : (x y : Move) → partial_le partial_cmp-value.it x y ≡ true → is_le (cmp-value.it x y) ≡ true
+partly_at_most x y le = subst (λ (o : Option Ordering). is_some_and is_le o ≡ true) (matches_partial_cmp-law x y) le
+
+-- what was lent is there as it was left
+pub lent_back : {X : Type 0} (old new : List X) (len : ℕ) → len ≡ length old → IsPermutation old new → take len (new ++ drop (length new) old) ≡ new
+lent_back old new len is same =
+    let size : length new ≡ length old = length_permutation old new same in
+    let none : drop (length new) old ≡ [] = drop_of_length-le old (omega (arith, size)) in
+    let e : len ≡ length new = omega (arith, is, size) in
+    rw (none, e, append-nil) (take-length new)

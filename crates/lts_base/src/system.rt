@@ -10,6 +10,7 @@ use crate::divergence::Divergence;
 use crate::labels::Labels;
 use crate::list::Listed;
 use crate::memory::Memory;
+use crate::ordering::put_in_order;
 use std::alloc::{AllocError, Global};
 use std::marker::Model;
 
@@ -102,7 +103,7 @@ impl Lts {
         let inputs = labels.inputs();
         test_moves(states, count, moves.as_slice())?;
         let mut moves = moves.into_vec();
-        moves.sort_unstable();
+        put_in_order(&mut moves);
         let offsets = offsets_of(alloc, states, &moves)?;
         Ok(Lts {
             states,
