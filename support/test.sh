@@ -332,6 +332,38 @@ interrupted_goes_on() {
     check "the next run" ends 0 with_kit outs two
 }
 
+# One session over TCP with a program under test: what it is, STATUS, how the log ends, PROGRAM, and options of drive.
+session() {
+    what=$1
+    wanted=$2
+    end=$3
+    program=$4
+    shift 4
+    check "$what" ends "$wanted" env FITSOWAR="$copy/fitsowar" sh examples/adapter/session.sh \
+        examples/coffee/specification.aut "$program" "$@"
+    check "$what, its end" has "^$end\$"
+    check "$what, its version" has '^torx log 2$'
+}
+
+# The sessions go over ports that are free, so that two runs don't meet.
+sessions_over_tcp() {
+    if ! command -v python3 > /dev/null 2>&1; then
+        skip "sessions over TCP: there is no python3"
+        return
+    fi
+    there=$(pwd)
+    cd "$copy" || return
+    served=examples/coffee/served
+    session "a machine in Python" 0 'end 2 pass' "python3 examples/adapter/coffee.py" --goal "$served"
+    session "a machine in Python that gives two teas" 1 'end 5 fail' "python3 examples/adapter/coffee.py twice" --seed 1 --steps 5 --patience 3
+    session "a machine in shell" 0 'end 2 pass' "sh examples/adapter/coffee.sh" --goal "$served"
+    session "a machine in shell that gives milk" 1 'end 2 fail' "sh examples/adapter/coffee.sh milk" --goal "$served"
+    session "a program that ends" 2 'end 0 ended' true --goal "$served"
+    check "an address without a port" ends 7 "$copy/fitsowar" drive examples/coffee/specification.aut localhost
+    check "an address of a form that isn't one" ends 7 "$copy/fitsowar" drive examples/coffee/specification.aut ::1:1
+    cd "$there" || return
+}
+
 # The first run in the shell $1, beside other tests: what it says and its counts go to files.
 in_shell() {
     shell=$1
@@ -357,7 +389,7 @@ count_in() {
     fi
 }
 
-for script in "$top"/support/*.sh "$top/fitsowar" "$top"/examples/ci/*.sh; do
+for script in "$top"/support/*.sh "$top/fitsowar" "$top"/examples/ci/*.sh "$top"/examples/adapter/*.sh; do
     for shell in sh dash bash; do
         command -v "$shell" >/dev/null 2>&1 && check "$shell reads $script" "$shell" -n "$script"
     done
@@ -382,8 +414,9 @@ if [ -x "$copy/crates/torx_tool/out/torx_tool" ]; then
     installs
     manual_is_read
     completion_is_right
+    sessions_over_tcp
 else
-    skip "the texts, help, installation and completion: the program isn't built"
+    skip "the texts, help, installation, completion and sessions: the program isn't built"
 fi
 wait
 for shell in $shells; do

@@ -10,3 +10,4 @@ mod words;
 
 pub use command::{check, usual_report};
 pub use outcome::CheckOutcome;
+pub use text::lacking_text;

@@ -33,7 +33,7 @@ pub fn check_text(
             depth,
         } => cut(alloc, *what, *reached, *depth),
         CheckOutcome::NotEnabled { name, state, label } => {
-            lacking(alloc, labels, name.as_slice(), *state, *label)
+            lacking_text(alloc, labels, name.as_slice(), *state, *label)
         }
     }
 }
@@ -83,7 +83,8 @@ fn numbered(alloc: Global, front: &[u8], reached: u64, depth: u32) -> Result<Tex
     Ok(Listed::from_vec(text))
 }
 
-fn lacking(
+/// The text that tells that the implementation of this file lacks an input.
+pub fn lacking_text(
     alloc: Global,
     labels: &Labels,
     name: &[u8],

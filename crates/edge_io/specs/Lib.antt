@@ -12,3 +12,6 @@ pub mod StreamsInMemory
 pub mod KeptAnswers
 pub mod DialersInMemory
 pub mod KeptDials
+pub mod Doors
+pub mod DoorsInMemory
+pub mod KeptBinds

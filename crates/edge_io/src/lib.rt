@@ -5,9 +5,11 @@
 
 pub mod act;
 mod asked;
+mod bound;
 mod calls;
 pub mod content;
 pub mod dialer;
+pub mod door;
 pub mod failed;
 pub mod files;
 mod givens;
@@ -16,6 +18,7 @@ mod kept;
 pub mod link;
 pub mod load;
 pub mod memory_dialer;
+pub mod memory_door;
 pub mod memory_files;
 pub mod memory_link;
 pub mod memory_sink;
@@ -27,18 +30,21 @@ pub mod stream;
 pub mod sure;
 pub mod sure_dialer;
 pub mod sure_link;
+pub mod tcp;
 
 pub use act::{Act, Acts, Heard, MOST_HEARD_BYTES};
 pub use content::{
     Contents, Given, Givens, Links, NamedText, Numbers, Replies, Reply, Room, are_given, are_said,
 };
 pub use dialer::{DialError, Dialer};
+pub use door::Door;
 pub use failed::Failed;
 pub use files::Files;
 pub use host::{HostFiles, HostSink};
 pub use link::Link;
 pub use load::{LoadError, load_all};
 pub use memory_dialer::MemDialer;
+pub use memory_door::{MemDoor, Streams};
 pub use memory_files::MemFiles;
 pub use memory_link::MemLink;
 pub use memory_sink::MemSink;
@@ -47,5 +53,6 @@ pub use put::put_all;
 pub use sink::Sink;
 pub use stream::{Got, Stream};
 pub use sure::{SureFiles, SureSink};
-pub use sure_dialer::{ShutDialer, SureDialer};
+pub use sure_dialer::SureDialer;
 pub use sure_link::SureLink;
+pub use tcp::{TcpDoor, TcpLine, connect_tcp};

@@ -1,8 +1,6 @@
-//! Dialers without an outside: one whose dials never fail, and one whose dials all fail.
-ghost use Rattle.std.specs.Prelude.{◌≡◌, ◌≤◌, [], Err, IfOk, Ok, None, Some};
+//! A dialer without an outside, whose dials never fail.
+ghost use Rattle.std.specs.Prelude.{◌≡◌, [], IfOk, Ok, None};
 ghost use Rattle.edge_io.specs.Dials.{IsNewLink};
-ghost use Rattle.edge_io.specs.Outside.{counted};
-ghost use Rattle.edge_io.specs.declared.dialer.DialError.TheVariants.{Failed};
 
 use crate::content::Replies;
 use crate::dialer::{DialError, Dialer};
@@ -37,47 +35,6 @@ impl Dialer for SureDialer {
         ensures idles { self.new.idles ≡ self.old.idles }
     {
         Ok(SureLink::new(Replies::new(self.alloc)))
-    }
-
-    fn hang_up(&mut self, link: SureLink) {
-        if link.was_idle() {
-            self.idles = self.idles.saturating_add(1);
-        }
-    }
-}
-
-/// A dialer whose dials all fail.
-#[derive(Drop, Debug)]
-pub struct ShutDialer {
-    faults: u64,
-    idles: u64,
-}
-
-impl ShutDialer {
-    /// A dialer that reaches nothing.
-    pub fn new() -> ShutDialer
-        ensures told { ⟦<ShutDialer as Dialer>⟧.told result ≡ record { asked = None; dialled = Some 0; ended = None; faults = 0; idles = 0 } }
-    {
-        ShutDialer {
-            faults: 0,
-            idles: 0,
-        }
-    }
-}
-
-impl Dialer for ShutDialer {
-    type Link = SureLink;
-
-    ghost told = { λ d. record { asked = None; dialled = Some 0; ended = None; faults = d.faults; idles = d.idles } };
-
-    fn dial(&mut self, _address: &str, _tick: u32) -> Result<SureLink, DialError>
-        ensures shut { result ≡ Err Failed }
-        ensures faults { self.new.faults ≡ counted self.old.faults }
-        ensures idles { self.new.idles ≡ self.old.idles }
-        ensures later { self.old.faults ≤ self.new.faults }
-    {
-        self.faults = self.faults.saturating_add(1);
-        Err(DialError::Failed)
     }
 
     fn hang_up(&mut self, link: SureLink) {

@@ -13,3 +13,4 @@ pub mod PlayLaws
 pub mod AskLaws
 pub mod FormLaws
 pub mod JudgeLaws
+pub mod StallLaws

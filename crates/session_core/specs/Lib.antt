@@ -14,3 +14,4 @@ pub mod Driven
 pub mod Logged
 pub mod Sets
 pub mod Judged
+pub mod Stalls

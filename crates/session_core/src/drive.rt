@@ -1,8 +1,9 @@
 //! A session that is driven to its end.
-ghost use Rattle.std.specs.Prelude.{◌≡◌, ℕ, ◌≤◌, List, [], IfErr};
-ghost use Rattle.edge_io.specs.Links.{KeepsLink, LinkFails};
+ghost use Rattle.std.specs.Prelude.{◌≡◌, ℕ, ◌≤◌, List, [], IfErr, IfOk, OnOk};
+ghost use Rattle.edge_io.specs.Links.{KeepsLink, LinkFails, LinkIdles};
 ghost use Rattle.session_core.specs.Table.{opening};
 ghost use Rattle.session_core.specs.Driven.{IsDriveOf, IsLoggedDriveOf};
+ghost use Rattle.session_core.specs.Stalls.{StallsIdle};
 
 use crate::event::Action;
 use crate::session::Session;
@@ -21,6 +22,7 @@ pub fn drive_on<W: Walk, C: Choose, K: Link, L: Ledger>(
 ) -> Result<Verdict, DriveError>
     ensures driven { IsDriveOf C.answer K.gives K.state K.told session.old chooser.old link.old result session.new chooser.new link.new }
     ensures broken { IfErr result (λ e. e ≡ DriveError.Broken → LinkFails (K.told link.old) (K.told link.new)) }
+    ensures stalled { OnOk result (StallsIdle session.old.sitting.phase (K.told link.old) session.new.sitting.phase (K.told link.new)) }
     ensures later { KeepsLink (K.told link.old) (K.told link.new) }
 {
     loop {
@@ -45,6 +47,7 @@ pub fn drive<W: Walk, C: Choose, K: Link, L: Ledger>(
     requires begins { session.old.sitting ≡ opening }
     ensures logged { IsLoggedDriveOf C.answer K.gives K.state K.told session.old chooser.old link.old result session.new chooser.new link.new }
     ensures broken { IfErr result (λ e. e ≡ DriveError.Broken → LinkFails (K.told link.old) (K.told link.new)) }
+    ensures stalled { IfOk result (λ v. v ≡ Verdict.Stalled → LinkIdles (K.told link.old) (K.told link.new)) }
     ensures later { KeepsLink (K.told link.old) (K.told link.new) }
 {
     // the call tells that the patience is at least 1

@@ -1,9 +1,10 @@
 //! One turn of a session that is driven.
-ghost use Rattle.std.specs.Prelude.{◌≡◌, ℕ, ◌≤◌, List, IfErr};
+ghost use Rattle.std.specs.Prelude.{◌≡◌, ℕ, ◌≤◌, List, IfErr, OnOk};
 ghost use Rattle.edge_io.specs.Links.{KeepsLink, LinkFails};
 ghost use Rattle.session_core.specs.Table.{IsOpen};
 ghost use Rattle.session_core.specs.Fitting.{told};
 ghost use Rattle.session_core.specs.Driven.{told_of, IsTurnOf};
+ghost use Rattle.session_core.specs.Stalls.{StallsIdle};
 
 use crate::event::{Action, Event};
 use crate::session::Session;
@@ -65,7 +66,8 @@ fn event_of(heard: Heard, text: &[u8]) -> Event<'_>
 
 /// One deed, by what the session waits for: its chooser is asked, or its link looks, sends or
 /// hears; and the session takes the event. Broken comes only where the link failed, and then the
-/// session is as before; so it is after the other errors, which are those of the session.
+/// session is as before; so it is after the other errors, which are those of the session. A session
+/// stalls only where the link's count of idle answers rose.
 pub fn turn_one<W: Walk, C: Choose, K: Link, L: Ledger>(
     session: &mut Session<'_, W>,
     chooser: &mut C,
@@ -75,6 +77,7 @@ pub fn turn_one<W: Walk, C: Choose, K: Link, L: Ledger>(
     requires open { IsOpen session.old.sitting.phase }
     ensures turned { IsTurnOf C.answer K.gives K.state K.told session.old chooser.old link.old result session.new chooser.new link.new }
     ensures broken { IfErr result (λ e. e ≡ DriveError.Broken → LinkFails (K.told link.old) (K.told link.new)) }
+    ensures stalled { OnOk result (StallsIdle session.old.sitting.phase (K.told link.old) session.new.sitting.phase (K.told link.new)) }
     ensures later { KeepsLink (K.told link.old) (K.told link.new) }
 {
     match session.next() {

@@ -1,5 +1,5 @@
 -- Each kind of files has one reading: a content is read as one value, or else it has one first fault.
-use Rattle.std.proofs.Common.{◌≡◌, ◌∙◌, ℕ, ◌<◌, ◌≤◌, ◌^◌, List, length, Ok, Err, inl, inr, ◌⊎◌, refl, sym, ap, arith}
+use Rattle.std.proofs.Common.{◌≡◌, ◌∙◌, ℕ, ◌<◌, ◌≤◌, ◌^◌, List, length, Ok, Err, inl, inr, ◌⊎◌, refl, sym, ap, subst, arith}
 use Rattle.std.proofs.lemmas.Bool.{cases_Bool}
 use Rattle.lts_base.specs.declared.limits.TheConstants.{MOST_CERT_BYTES, MOST_FILE_BYTES}
 use Rattle.lts_base.specs.Alphabet.{Alphabet, IsAlphabet}
@@ -20,6 +20,10 @@ use Rattle.graphml_text.specs.declared.error.GraphError.{GraphError}
 use Rattle.graphml_text.specs.declared.error.GraphError.TheVariants.{Memory as NoRoomForGraph}
 use Rattle.graphml_text.proofs.ReadOnce.{graphml_excludes, raw_once as graph_once, refuses_once as graph_refuses_once}
 use Rattle.trace_text.proofs.OnceLaws.{trace_fine, fault_once, trace_once}
+use Rattle.script_text.specs.Script.{RefusesScript}
+use Rattle.script_text.specs.declared.error.ScriptError.{ScriptError}
+use Rattle.script_text.specs.declared.error.ScriptError.TheVariants.{Memory as NoRoomForScript}
+use Rattle.script_text.proofs.OnceLaws.{script_once, script_fine, fault_once as script_fault_once}
 use Rattle.cert_text.specs.declared.error.CertError.{CertError}
 use Rattle.cert_text.specs.declared.error.CertError.TheVariants.{Memory as NoRoomForCert}
 use Rattle.cert_text.specs.Faults.{RefusesCert}
@@ -30,8 +34,8 @@ use Rattle.log_text.specs.declared.error.LogError.TheVariants.{Memory as NoRoomF
 use Rattle.log_text.specs.Faults.{RefusesLogs}
 use Rattle.log_text.proofs.LogsOnce.{logs_exclude, logs_once, fault_once as logs_fault_once}
 use Rattle.tool_base.specs.declared.refusal.FileError.{FileError}
-use Rattle.tool_base.specs.declared.refusal.FileError.TheVariants.{Aut, Graph, Lines, Cert as Certified, Logs, UnknownLabel}
-use Rattle.tool_base.specs.Kinds.{Kind, IsFaultBy, aut_kind, graph_kind, is_graphml, system_kind, list_kind, trace_kind, cert_kind, logs_kind}
+use Rattle.tool_base.specs.declared.refusal.FileError.TheVariants.{Aut, Graph, Lines, Cert as Certified, Logs, UnknownLabel, GoalLength}
+use Rattle.tool_base.specs.Kinds.{Kind, IsFaultBy, aut_kind, graph_kind, is_graphml, system_kind, list_kind, trace_kind, goal_kind, script_kind, cert_kind, logs_kind, script_error, IsFaultyTrace, IsFaultyGoal}
 use Rattle.tool_base.specs.Once.{IsKind}
 
 -- a reader that refuses a content for one thing, but for want of memory, tells one fault of it
@@ -90,6 +94,30 @@ trace_is_kind a alphabet = record {
   once = λ c σ τ short one other. trace_once a c σ τ alphabet one other;
   fault = λ c e f short one other. one.1 ∙ ap UnknownLabel (fault_once a c one.0 other.0 one.2 other.2) ∙ sym other.1;
   apart = λ c σ e short is fault. trace_fine a c σ fault.0 is fault.2;
+}
+
+-- a goal that is at fault is so once
+goal_fault : (a : Alphabet) (steps : ℕ) (c : List ℕ) (e f : FileError) → IsAlphabet a → IsFaultyGoal a steps c e → IsFaultyGoal a steps c f → e ≡ f
+goal_fault a steps c e f alphabet (inl one) (inl other) = one.1 ∙ ap UnknownLabel (fault_once a c one.0 other.0 one.2 other.2) ∙ sym other.1
+goal_fault a steps c e f alphabet (inl one) (inr (σ, is, long, so)) = absurd (trace_fine a c σ one.0 is one.2)
+goal_fault a steps c e f alphabet (inr (σ, is, long, so)) (inl other) = absurd (trace_fine a c σ other.0 is other.2)
+goal_fault a steps c e f alphabet (inr (σ, is, long, so)) (inr (τ, too, length, also)) = so ∙ sym also
+
+pub goal_is_kind : (a : Alphabet) (steps : ℕ) → IsAlphabet a → IsKind (goal_kind a steps)
+goal_is_kind a steps alphabet = record {
+  once = λ c σ τ short one other. trace_once a c σ τ alphabet one.0 other.0;
+  fault = λ c e f short one other. goal_fault a steps c e f alphabet one other;
+  apart = λ c σ e short is fault. elim fault [
+    | inl other ↦ trace_fine a c σ other.0 is.0 other.2
+    | inr (τ, too, long, so) ↦ long (subst (λ t. (0 < length t) × (length t ≤ steps)) (trace_once a c σ τ alphabet is.0 too) is.1)
+  ];
+}
+
+pub script_is_kind : (a : Alphabet) → IsAlphabet a → IsKind (script_kind a)
+script_is_kind a alphabet = record {
+  once = λ c x y short one other. script_once a c x y alphabet one other;
+  fault = λ c e f short one other. fault_by_once script_error NoRoomForScript (RefusesScript a) c e f (λ x y why for some some_too. script_fault_once a c x y why for some some_too) one other;
+  apart = λ c x e short is fault. script_fine a c x fault.0 is fault.2 fault.3;
 }
 
 -- a certificate that isn't too long has few lines

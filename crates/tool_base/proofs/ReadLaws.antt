@@ -1,6 +1,7 @@
 -- What a content is read as, as what loading its file answers.
-use Rattle.std.proofs.Common.{◌≡◌, ℕ, ◌≤◌, List, [], ◌∷◌, ◌++◌, length, Result, Ok, Err, inr, sym, subst}
+use Rattle.std.proofs.Common.{◌≡◌, ℕ, ◌<◌, ◌≤◌, List, [], ◌∷◌, ◌++◌, length, Result, Ok, Err, arith, inr, refl, sym, subst}
 use Rattle.edge_io.specs.Outside.{ToldFiles, KeepsFiles}
+use Rattle.edge_io.proofs.OutsideLaws.{KeepsFiles-none}
 use Rattle.lts_base.specs.declared.sorting.SplitSystems.{SplitSystems}
 use Rattle.lts_base.specs.declared.limits.TheConstants.{MOST_FILE_BYTES}
 use Rattle.lts_base.specs.Raw.{RawSystem}
@@ -12,12 +13,12 @@ use Rattle.tool_base.specs.declared.refusal.Stop.{Stop}
 use Rattle.tool_base.specs.declared.refusal.Stop.TheVariants.{Usage, Refused, Memory}
 use Rattle.tool_base.specs.Contents.{Contents}
 use Rattle.tool_base.specs.Pages.{IsStopped}
-use Rattle.tool_base.specs.Kinds.{Kind, system_kind, IsDigestOfFile}
+use Rattle.tool_base.specs.Kinds.{Kind, IsFile, RefusesFile, system_kind, IsDigestOfFile}
 use Rattle.tool_base.specs.Loads.{Loads, HasShortContent, ReadsAs}
 use Rattle.tool_base.specs.Loaded.{LoadsSystems}
-use Rattle.tool_base.specs.Sources.{Sources, AreRead, AreSystems, RefusesSources, all_names}
+use Rattle.tool_base.specs.Sources.{Sources, AreRead, AreSystems, RefusesSystems, RefusesSources, all_names}
 use Rattle.tool_base.proofs.KindLaws.{system_most}
-use Rattle.tool_base.proofs.StoppedLaws.{IsStopped-wider, same_contents, one_loaded}
+use Rattle.tool_base.proofs.StoppedLaws.{IsStopped-wider, same_contents, one_loaded, two_loaded, raws_stopped, file_before}
 
 -- a content that was read is that of its file
 pub read_loads : {X : Type 0} (kind : Kind X) (old new : ToldFiles) (name content : List ℕ) (result : Result X Stop) → HasShortContent kind.most old name content → ReadsAs kind name content result → Loads kind old new name result
@@ -56,3 +57,29 @@ digested_loads old mid sources name a systems rest s digest keeps names are is o
 -- files that were read are read of later contents
 pub read_later : (old mid : ToldFiles) (names : List (List ℕ)) (raws : List RawSystem) → KeepsFiles old mid → AreRead old.content names raws → AreRead mid.content names raws
 read_later old mid names raws keeps read = subst (λ (c : Contents). AreRead c names raws) (sym (same_contents old mid keeps)) read
+
+-- the first of two files stopped the whole
+pub first_unread : (old new : ToldFiles) (first second : List ℕ) (stop : Stop) → IsStopped old new (first ∷ []) (RefusesFile (system_kind first) old.content first) stop →
+    IsStopped old new (first ∷ second ∷ []) (RefusesSystems old.content (first ∷ second ∷ [])) stop
+first_unread old new first second stop h =
+    let below : 0 < length (first ∷ second ∷ []) = omega arith in
+    raws_stopped old old new (first ∷ second ∷ []) [] 0 first stop (KeepsFiles-none old) below refl tt h
+
+-- so did the second, where the first was read
+pub second_unread : (old mid new : ToldFiles) (first second : List ℕ) (raw : RawSystem) (stop : Stop) → KeepsFiles old mid → IsFile (system_kind first) old.content first raw →
+    IsStopped mid new (second ∷ []) (RefusesFile (system_kind second) mid.content second) stop → IsStopped old new (first ∷ second ∷ []) (RefusesSystems old.content (first ∷ second ∷ [])) stop
+second_unread old mid new first second raw stop keeps read h =
+    let below : 1 < length (first ∷ second ∷ []) = omega arith in
+    raws_stopped old mid new (first ∷ second ∷ []) (raw ∷ []) 1 second stop keeps below refl (read, tt) h
+
+-- both were read
+pub pair_read : (old mid : ToldFiles) (first second : List ℕ) (raw other : RawSystem) (raws : List RawSystem) → KeepsFiles old mid → raws ≡ raw ∷ other ∷ [] → IsFile (system_kind first) old.content first raw → IsFile (system_kind second) mid.content second other →
+    AreRead old.content (first ∷ second ∷ []) raws
+pair_read old mid first second raw other raws keeps is read later = rw is (read, (file_before old mid second other keeps later, tt))
+
+-- the two systems of files that were read before, and the digest of the first
+pub pair_loads : (old mid : ToldFiles) (sources : Sources) (one two : List ℕ) (a : Alphabet) (systems more rest : List System) (s t : System) (digest : Digest) → KeepsFiles old mid → sources.names ≡ one ∷ two ∷ [] → AreSystems mid.content sources a systems →
+    systems ≡ more ++ t ∷ [] → more ≡ rest ++ s ∷ [] → IsDigestOfFile old.content one digest → AreSystems old.content sources a (s ∷ t ∷ []) × IsDigestOfFile old.content one digest
+pair_loads old mid sources one two a systems more rest s t digest keeps names are is so of_file =
+    let same = two_loaded mid.content sources one two a systems more rest s t names are is so in
+    (subst (λ (c : Contents). AreSystems c sources a (s ∷ t ∷ [])) (same_contents old mid keeps) (subst (AreSystems mid.content sources a) same are), of_file)

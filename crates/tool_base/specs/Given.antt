@@ -1,5 +1,5 @@
 -- Private: what the code's own types say of a command's systems, and what the pieces of their loading answer.
-use Rattle.std.specs.Prelude.{◌≡◌, ℕ, List, map, Result, MatchResult, All, ◌⊎◌}
+use Rattle.std.specs.Prelude.{◌≡◌, ℕ, List, [], ◌∷◌, map, Result, MatchResult, All, ◌⊎◌}
 use Rattle.std.specs.Borrow.{Bor}
 use Rattle.lts_base.specs.declared.divergence.Divergence.{Divergence}
 use Rattle.lts_base.specs.declared.sorting.Rule.{Rule}
@@ -14,6 +14,8 @@ use Rattle.tool_base.specs.declared.refusal.Refusal.{Refusal}
 use Rattle.tool_base.specs.declared.refusal.Stop.{Stop}
 use Rattle.tool_base.specs.declared.refusal.Stop.TheVariants.{Usage, Refused, Memory}
 use Rattle.tool_base.specs.declared.sources.Sources.{Sources as SourcesGiven}
+use Rattle.tool_base.specs.declared.raw.RawPair.{RawPair}
+use Rattle.tool_base.specs.Kinds.{IsDigestOfFile}
 use Rattle.tool_base.specs.Sources.{Sources, AreRead, RefusesSystems, IsRule, RefusesRule, RefusesLabels, RefusesCycles, AreSettled, read_as, list_names}
 use Rattle.tool_base.specs.Pages.{IsStopped}
 
@@ -27,6 +29,12 @@ sources_from s = record { names = names_of s.names.now; sorting = sorting_from s
 -- the files of the systems are read, or one is refused
 abbrev pub ReadsRaws : ToldFiles → ToldFiles → List (List ℕ) → Result (List RawSystem) Stop → Type 0
 ReadsRaws old new names result = MatchResult result (AreRead old.content names) (IsStopped old new names (RefusesSystems old.content names))
+
+-- the files of two systems are read, and the digest of the first is had; or one is refused
+abbrev pub ReadsPair : ToldFiles → ToldFiles → List ℕ → List ℕ → Result RawPair Stop → Type 0
+ReadsPair old new first second result =
+    MatchResult result (λ r. AreRead old.content (first ∷ second ∷ []) r.raws × IsDigestOfFile old.content first r.digest)
+    (IsStopped old new (first ∷ second ∷ []) (RefusesSystems old.content (first ∷ second ∷ [])))
 
 -- the rule is had, or the file that lists the inputs is refused
 abbrev pub ReadsRule : ToldFiles → ToldFiles → AskedSorting → Result Rule Stop → Type 0

@@ -1,18 +1,22 @@
 -- Promise: kinds of files, when a file is read as a value of its kind, and why it is refused.
-use Rattle.std.specs.Prelude.{◌≡◌, Bool, true, false, eqb, ℕ, ◌<◌, ◌≤◌, List, length, codes}
+use Rattle.std.specs.Prelude.{◌≡◌, Bool, true, false, eqb, ℕ, ◌<◌, ◌≤◌, List, length, codes, ◌⊎◌}
 use Rattle.std.specs.List.{ends_with}
 use Rattle.lts_base.specs.declared.item.Item.{Item}
 use Rattle.lts_base.specs.declared.limits.TheConstants.{MOST_FILE_BYTES, MOST_CERT_BYTES}
 use Rattle.lts_base.specs.Alphabet.{Alphabet}
 use Rattle.lts_base.specs.Raw.{RawSystem}
 use Rattle.text_scan.specs.Listing.{IsListing, RefusesListing}
-use Rattle.text_scan.specs.declared.error.LinesError.TheVariants.{Memory as NoRoomForList}
+use Rattle.text_scan.specs.declared.error.LinesError.TheVariants.{Line as ListLine, Memory as NoRoomForList}
 use Rattle.aut_text.specs.Grammar.{IsAutFile}
 use Rattle.aut_text.specs.Faults.{RefusesAut}
 use Rattle.aut_text.specs.declared.error.AutError.TheVariants.{Memory as NoRoomForFile}
 use Rattle.graphml_text.specs.Document.{IsGraphmlFile, RefusesGraphml}
 use Rattle.graphml_text.specs.declared.error.GraphError.TheVariants.{Memory as NoRoomForGraph}
 use Rattle.trace_text.specs.Traces.{IsTrace, RefusesTrace}
+use Rattle.walk_core.specs.declared.choice.Choice.{Choice}
+use Rattle.script_text.specs.declared.error.ScriptError.{ScriptError}
+use Rattle.script_text.specs.declared.error.ScriptError.TheVariants.{Line as ScriptLine, UnknownLabel as ScriptLabel, Memory as NoRoomForScript}
+use Rattle.script_text.specs.Script.{IsScript, RefusesScript}
 use Rattle.cert_text.specs.declared.cert.Cert.{Cert}
 use Rattle.cert_text.specs.declared.error.CertError.TheVariants.{Memory as NoRoomForCert}
 use Rattle.cert_text.specs.Certificate.{IsCertOf}
@@ -24,7 +28,7 @@ use Rattle.log_text.specs.Logs.{IsDigest, AreLogsOf}
 use Rattle.log_text.specs.Faults.{RefusesLogs}
 use Rattle.sha2.specs.Sha256.{sha256}
 use Rattle.tool_base.specs.declared.refusal.FileError.{FileError}
-use Rattle.tool_base.specs.declared.refusal.FileError.TheVariants.{Aut, Graph, Lines, Cert as Certified, Logs, UnknownLabel}
+use Rattle.tool_base.specs.declared.refusal.FileError.TheVariants.{Aut, Graph, Lines, Cert as Certified, Logs, UnknownLabel, GoalLength}
 use Rattle.tool_base.specs.declared.refusal.Refusal.{Refusal}
 use Rattle.tool_base.specs.declared.refusal.Refusal.TheVariants.{TooLong, BadFile}
 use Rattle.tool_base.specs.Contents.{Contents, HasContent}
@@ -69,6 +73,24 @@ IsFaultBy {E} told memory refuses content error = (e : E) × (error ≡ told e) 
 abbrev pub IsFaultyTrace : Alphabet → List ℕ → FileError → Type 0
 IsFaultyTrace a content error = (line : ℕ) × (error ≡ UnknownLabel line) × RefusesTrace a content line
 
+-- the trace has an item at least, and at most so many
+abbrev pub IsWithinSteps : ℕ → List Item → Type 0
+IsWithinSteps steps σ = (0 < length σ) × (length σ ≤ steps)
+
+-- the content is a trace over the alphabet that may be the goal of a session with so many steps
+abbrev pub IsGoal : Alphabet → ℕ → List ℕ → List Item → Type 0
+IsGoal a steps content σ = IsTrace a content σ × IsWithinSteps steps σ
+
+-- the content is no trace, or the trace is no goal
+abbrev pub IsFaultyGoal : Alphabet → ℕ → List ℕ → FileError → Type 0
+IsFaultyGoal a steps content error = IsFaultyTrace a content error ⊎ ((σ : List Item) × IsTrace a content σ × (¬ IsWithinSteps steps σ) × (error ≡ GoalLength))
+
+-- what is told of the fault of a script
+abbrev pub script_error : ScriptError → FileError
+script_error (ScriptLine n) = Lines (ListLine n)
+script_error (ScriptLabel n) = UnknownLabel n
+script_error NoRoomForScript = Lines NoRoomForList
+
 -- Aldebaran files
 abbrev pub aut_kind : Kind RawSystem
 aut_kind = record { most = MOST_FILE_BYTES; reads = IsAutFile; faulty = IsFaultBy Aut NoRoomForFile RefusesAut }
@@ -97,6 +119,14 @@ list_kind = record { most = MOST_FILE_BYTES; reads = IsListing; faulty = IsFault
 -- files of traces over an alphabet
 abbrev pub trace_kind : Alphabet → Kind (List Item)
 trace_kind a = record { most = MOST_FILE_BYTES; reads = IsTrace a; faulty = IsFaultyTrace a }
+
+-- files of goals over an alphabet, for sessions with so many steps
+abbrev pub goal_kind : Alphabet → ℕ → Kind (List Item)
+goal_kind a steps = record { most = MOST_FILE_BYTES; reads = IsGoal a steps; faulty = IsFaultyGoal a steps }
+
+-- files of scripts over an alphabet
+abbrev pub script_kind : Alphabet → Kind (List Choice)
+script_kind a = record { most = MOST_FILE_BYTES; reads = IsScript a; faulty = IsFaultBy script_error NoRoomForScript (RefusesScript a) }
 
 -- certificates over an alphabet, of an implementation and a specification with so many states
 abbrev pub cert_kind : Alphabet → ℕ → ℕ → Kind Cert

@@ -12,6 +12,7 @@ use Rattle.tool_base.specs.declared.systems.OneSystem.{OneSystem}
 use Rattle.tool_base.specs.declared.systems.DigestedSystem.{DigestedSystem}
 use Rattle.tool_base.specs.Kinds.{IsDigestOfFile}
 use Rattle.tool_base.specs.declared.systems.TwoSystems.{TwoSystems}
+use Rattle.tool_base.specs.declared.systems.DigestedPair.{DigestedPair}
 use Rattle.tool_base.specs.Sources.{Sources, AreSystems, RefusesSources, all_names}
 use Rattle.tool_base.specs.Pages.{IsStopped}
 
@@ -40,6 +41,12 @@ LoadsDigestedSystem old new sources name result =
     MatchResult result (λ s. AreSystems old.content sources s.labels (s.system ∷ []) × IsDigestOfFile old.content name s.digest)
     (IsStopped old new (all_names sources) (RefusesSources old.content sources))
 
+-- the systems of two files, over one alphabet, and the digest of the first file
+abbrev pub LoadsDigestedPair : ToldFiles → ToldFiles → Sources → List ℕ → Result DigestedPair Stop → Type 0
+LoadsDigestedPair old new sources name result =
+    MatchResult result (λ s. AreSystems old.content sources s.labels (s.first ∷ s.second ∷ []) × IsDigestOfFile old.content name s.digest)
+    (IsStopped old new (all_names sources) (RefusesSources old.content sources))
+
 -- the system is sound, and over the alphabet
 pub record IsOneOver (s : OneSystem) : Type 0 where
   pub alphabet : IsAlphabet s.labels
@@ -56,3 +63,6 @@ pub record AreTwoOver (s : TwoSystems) : Type 0 where
 
 abbrev pub IsDigestedOver : DigestedSystem → Type 0
 IsDigestedOver s = IsOneOver (record { labels = s.labels; system = s.system })
+
+abbrev pub AreDigestedOver : DigestedPair → Type 0
+AreDigestedOver s = AreTwoOver (record { labels = s.labels; first = s.first; second = s.second })

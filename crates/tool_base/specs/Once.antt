@@ -18,6 +18,11 @@ without_cycle (FileFault name) = FileFault name
 abbrev pub IsLike : Refusal → Refusal → Type 0
 IsLike r q = without_cycle r ≡ without_cycle q
 
+-- the page has one refusal, or else it answers
+pub record IsRefusedOnce {O : Type 0} (page : Page O) : Type 0 where
+  pub refused : (r q : Refusal) → page.refuses r → page.refuses q → IsLike r q
+  pub apart : (r : Refusal) (o : O) (t : List ℕ) → page.refuses r → ¬ page.answers o t
+
 -- the page has one refusal, or else one answer
 pub record IsOnce {O : Type 0} (page : Page O) : Type 0 where
   pub refused : (r q : Refusal) → page.refuses r → page.refuses q → IsLike r q

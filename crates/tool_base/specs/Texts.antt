@@ -17,7 +17,7 @@ use Rattle.torx_words.specs.declared.kind.UsageKind.{UsageKind}
 use Rattle.torx_words.specs.declared.kind.UsageKind.TheVariants.{NoCommand, UnknownCommand, Words, Value, Clash}
 use Rattle.trace_text.specs.Lines.{line}
 use Rattle.tool_base.specs.declared.refusal.FileError.{FileError}
-use Rattle.tool_base.specs.declared.refusal.FileError.TheVariants.{Aut, Graph, Lines, Cert as Certified, Logs, OtherSpec, OtherDivergence, UnknownLabel}
+use Rattle.tool_base.specs.declared.refusal.FileError.TheVariants.{Aut, Graph, Lines, Cert as Certified, Logs, OtherSpec, OtherDivergence, UnknownLabel, GoalLength}
 use Rattle.tool_base.specs.declared.refusal.Refusal.{Refusal}
 use Rattle.tool_base.specs.declared.refusal.Refusal.TheVariants.{TooLong, BadFile, BadLabels, Divergent, FileFault}
 
@@ -93,6 +93,7 @@ error_text (Logs error) = log_error_text error
 error_text (OtherSpec n) = codes "other-spec " ++ decimal n
 error_text (OtherDivergence n) = codes "other-divergence " ++ decimal n
 error_text (UnknownLabel n) = codes "unknown-label " ++ decimal n
+error_text GoalLength = codes "goal-length"
 
 abbrev pub labels_text : SplitError → List ℕ
 labels_text (Unsorted told) = line (codes "labels unsorted ") told

@@ -23,6 +23,7 @@ pub(crate) fn file_error(alloc: Global, error: &FileError) -> Result<String, All
         FileError::OtherSpec(log) => at_line(alloc, "other-spec ", *log),
         FileError::OtherDivergence(log) => at_line(alloc, "other-divergence ", *log),
         FileError::UnknownLabel(line) => at_line(alloc, "unknown-label ", *line),
+        FileError::GoalLength => String::from_str(alloc, "goal-length"),
     }
 }
 

@@ -6,7 +6,7 @@ ghost use Rattle.text_scan.specs.Listing.{IsListing, RefusesListing};
 ghost use Rattle.aut_text.specs.Grammar.{IsAutFile};
 ghost use Rattle.aut_text.specs.Faults.{RefusesAut};
 ghost use Rattle.trace_text.specs.Items.{IsItem};
-ghost use Rattle.tool_base.specs.Kinds.{aut_kind, graph_kind, is_graphml as names_graphml, system_kind, list_kind, trace_kind, cert_kind, logs_kind};
+ghost use Rattle.tool_base.specs.Kinds.{aut_kind, graph_kind, is_graphml as names_graphml, system_kind, list_kind, trace_kind, goal_kind, script_kind, cert_kind, logs_kind, IsWithinSteps};
 ghost use Rattle.tool_base.specs.Loads.{Loads, LoadsDigested, ReadsAs, IsTooLong, HasShortContent, IsStopBy};
 
 use crate::refusal::{FileError, Refusal, Stop};
@@ -17,9 +17,11 @@ use graphml_text::{GraphError, read_graphml};
 use log_text::{Digest, LogError, Logs, digest_of, read_logs};
 use lts_base::limits::{MOST_CERT_BYTES, MOST_FILE_BYTES};
 use lts_base::{Labels, Listed, Memory, PackedTexts, RawLts, Text, Trace};
+use script_text::{ScriptError, read_script};
 use std::alloc::Global;
 use text_scan::{LinesError, read_list};
 use trace_text::{TraceError, read_trace};
+use walk_core::Choice;
 
 /// The system of a file, which is read by its name.
 pub(crate) fn load_system<F: Files>(
@@ -124,6 +126,49 @@ pub fn load_trace<F: Files>(
         Err(TraceError::UnknownLabel(line)) => {
             Err(bad_file(alloc, name, FileError::UnknownLabel(line)))
         }
+    }
+}
+
+/// The goal of a file, over the labels, for a session with so many steps.
+pub fn load_goal<F: Files>(
+    alloc: Global,
+    files: &mut F,
+    name: &str,
+    labels: &Labels,
+    steps: u32,
+) -> Result<Trace, Stop>
+    ensures loaded { Loads (goal_kind labels.now steps) (F.told files.old) (F.told files.new) name.now result }
+    ensures within { IfOk result (IsWithinSteps steps) }
+    ensures keeps { KeepsFiles (F.told files.old) (F.told files.new) }
+{
+    let goal = load_trace(alloc, files, name, labels)?;
+    let count = goal.as_slice().len();
+    if count == 0 || count > steps as usize {
+        return Err(bad_file(alloc, name, FileError::GoalLength));
+    }
+    Ok(goal)
+}
+
+/// The script of a file, over the labels.
+pub fn load_script<F: Files>(
+    alloc: Global,
+    files: &mut F,
+    name: &str,
+    labels: &Labels,
+) -> Result<Listed<Choice>, Stop>
+    ensures loaded { Loads (script_kind labels.now) (F.told files.old) (F.told files.new) name.now result }
+    ensures keeps { KeepsFiles (F.told files.old) (F.told files.new) }
+{
+    let content = content(alloc, files, name, MOST_FILE_BYTES)?;
+    match read_script(alloc, content.as_slice(), labels) {
+        Ok(script) => Ok(script),
+        Err(ScriptError::Line(line)) => {
+            Err(bad_file(alloc, name, FileError::Lines(LinesError::Line(line))))
+        }
+        Err(ScriptError::UnknownLabel(line)) => {
+            Err(bad_file(alloc, name, FileError::UnknownLabel(line)))
+        }
+        Err(ScriptError::Memory) => Err(Stop::Memory),
     }
 }
 

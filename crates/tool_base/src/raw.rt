@@ -2,11 +2,12 @@
 ghost use Rattle.std.specs.Prelude.{◌≡◌};
 ghost use Rattle.edge_io.specs.Outside.{KeepsFiles};
 ghost use Rattle.torx_words.specs.Named.{sorting_from};
-ghost use Rattle.tool_base.specs.Given.{names_of, ReadsRaws, ReadsRule};
+ghost use Rattle.tool_base.specs.Given.{names_of, ReadsPair, ReadsRaws, ReadsRule};
 
-use crate::load::{load_list, load_system};
+use crate::load::{load_digested, load_list, load_system};
 use crate::refusal::Stop;
 use edge_io::Files;
+use log_text::Digest;
 use lts_base::{Listed, RawLts, Rule};
 use std::alloc::Global;
 use torx_words::Sorting;
@@ -26,6 +27,33 @@ pub(crate) fn raw_systems<F: Files>(
         raws.push(raw)?;
     }
     Ok(raws)
+}
+
+/// The raw systems of two files, in their order, and the digest of the first file.
+#[derive(Drop)]
+pub(crate) struct RawPair {
+    /// The raw systems.
+    pub(crate) raws: Listed<RawLts>,
+    /// The digest of the bytes that the first one was read from.
+    pub(crate) digest: Digest,
+}
+
+/// The raw systems of two files, and the digest of the first one.
+pub(crate) fn raw_pair<F: Files>(
+    alloc: Global,
+    files: &mut F,
+    first: &str,
+    second: &str,
+) -> Result<RawPair, Stop>
+    ensures read { ReadsPair (F.told files.old) (F.told files.new) first.now second.now result }
+    ensures keeps { KeepsFiles (F.told files.old) (F.told files.new) }
+{
+    let (raw, digest) = load_digested(alloc, files, first)?;
+    let other = load_system(alloc, files, second)?;
+    let mut raws = Listed::new(alloc);
+    raws.push(raw)?;
+    raws.push(other)?;
+    Ok(RawPair { raws, digest })
 }
 
 /// The rule by which labels are sorted.

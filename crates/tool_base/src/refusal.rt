@@ -28,8 +28,11 @@ pub enum FileError {
     OtherSpec(u32),
     /// This log, counted from 1, tells another reading of cycles of internal moves.
     OtherDivergence(u32),
-    /// It is no trace: this line, counted from 1, is no label of the alphabet nor `delta`.
+    /// It is no trace: this line, counted from 1, is no label of the alphabet nor `delta`; or it is
+    /// no script: the label of this line is no input.
     UnknownLabel(u32),
+    /// It is the trace of a goal, but has no item, or more than a session may have.
+    GoalLength,
 }
 
 /// Why the files of a command are refused.

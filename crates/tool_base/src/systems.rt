@@ -5,11 +5,11 @@ ghost use Rattle.lts_base.specs.System.{IsSystem};
 ghost use Rattle.lts_base.specs.Alphabet.{IsAlphabet, IsOver};
 ghost use Rattle.tool_base.specs.Given.{sources_from, names_of, IsHalted, IsSplitOf, IsSettledOf, RefusesSettled};
 ghost use Rattle.tool_base.specs.Sources.{AreRead, RefusesLabels};
-ghost use Rattle.tool_base.specs.Loaded.{LoadsSystems, LoadsOne, LoadsTwo, LoadsDigestedSystem, IsOneOver, IsDigestedOver, AreTwoOver, one_source, two_sources};
+ghost use Rattle.tool_base.specs.Loaded.{LoadsSystems, LoadsOne, LoadsTwo, LoadsDigestedSystem, LoadsDigestedPair, IsOneOver, IsDigestedOver, AreTwoOver, AreDigestedOver, one_source, two_sources};
 
 use crate::cycles::settled;
 use crate::load::load_digested;
-use crate::raw::{raw_systems, rule};
+use crate::raw::{RawPair, raw_pair, raw_systems, rule};
 use crate::refusal::{Refusal, Stop};
 use crate::sources::Sources;
 use edge_io::Files;
@@ -46,6 +46,19 @@ pub struct DigestedSystem {
     /// The system.
     pub system: Lts,
     /// The digest of the bytes that the system was read from.
+    pub digest: Digest,
+}
+
+/// The systems of two files, over one alphabet, and the digest of the first file.
+#[derive(Drop)]
+pub struct DigestedPair {
+    /// The alphabet.
+    pub labels: Labels,
+    /// The system of the first file.
+    pub first: Lts,
+    /// The system of the second file.
+    pub second: Lts,
+    /// The digest of the bytes that the first system was read from.
     pub digest: Digest,
 }
 
@@ -133,6 +146,39 @@ pub fn two_systems<F: Files>(
         labels,
         first,
         second,
+    })
+}
+
+/// The systems of the files of these names, and the digest of the first file.
+pub fn digested_pair<F: Files>(
+    alloc: Global,
+    files: &mut F,
+    first: &str,
+    second: &str,
+    sorting: Sorting<'_>,
+    divergence: Divergence,
+) -> Result<DigestedPair, Stop>
+    ensures loaded { LoadsDigestedPair (F.told files.old) (F.told files.new) (two_sources first.now second.now sorting.entry divergence) first.now result }
+    ensures over { IfOk result AreDigestedOver }
+    ensures keeps { KeepsFiles (F.told files.old) (F.told files.new) }
+{
+    let names = [first, second];
+    let sources = Sources {
+        names: &names,
+        sorting,
+        divergence,
+    };
+    let RawPair { raws, digest } = raw_pair(alloc, files, first, second)?;
+    let SplitSystems { labels, systems } = over_files(alloc, files, &sources, raws.as_slice())?;
+    let mut systems = systems.into_vec();
+    let (Some(second), Some(first)) = (systems.pop(), systems.pop()) else {
+        unreachable!()
+    };
+    Ok(DigestedPair {
+        labels,
+        first,
+        second,
+        digest,
     })
 }
 

@@ -36,6 +36,7 @@ use Rattle.torx_tool.specs.declared.commands.Name.{Name}
 use Rattle.torx_tool.specs.declared.status.Status.{Status}
 use Rattle.torx_tool.specs.declared.status.Status.TheVariants.{Accepted}
 use Rattle.torx_tool.specs.Status.{verify_status, refusal_status, IsFailure}
+use Rattle.cmd_drive.specs.Dialled.{Dialled}
 use Rattle.torx_tool.specs.Run.{ReportsBy, IsReportOn, IsWritten}
 use Rattle.torx_tool.specs.Exact.{IsBut, IsByCommand, IsByName, IsAnswered}
 use Rattle.torx_tool.specs.Audit.{AskForVerify, IsVerifiable, IsMade, IsCertified, IsAudit}
@@ -73,20 +74,20 @@ written_accepted report old new status (inr (some, inl (due, appended))) is = sy
 written_accepted report old new status (inr (some, inr (fault, fails, front))) is = absurd (failure_unaccepted status (subst IsFailure (sym fault) tt) is)
 
 -- the report on words that ask for `verify`
-verify_reported : (words : List (List ℕ)) (v : AskedVerify) (old new : ToldFiles) (report : Report Status) → AskForVerify old.content words v → IsReportOn words old new report → IsByReport (verify_page old.content v) verify_status report
-verify_reported [] v old new report ask h = absurd ask
-verify_reported (first ∷ others) v old new report (is, ask, told) h =
-    by_page verify_command verify_status others v old new report ask (subst (λ (n : Option Name). ReportsBy n others old new report) is h)
+verify_reported : (run : Dialled) (words : List (List ℕ)) (v : AskedVerify) (old new : ToldFiles) (report : Report Status) → AskForVerify old.content words v → IsReportOn run words old new report → IsByReport (verify_page old.content v) verify_status report
+verify_reported run [] v old new report ask h = absurd ask
+verify_reported run (first ∷ others) v old new report (is, ask, told) h =
+    by_page verify_command verify_status others v old new report ask (subst (λ (n : Option Name). ReportsBy run n others old new report) is h)
 
 -- the contents of its files are told
 verify_told : (contents : Contents) (words : List (List ℕ)) (v : AskedVerify) → AskForVerify contents words v → AreTold contents (verify_page contents v).names
 verify_told contents [] v ask = absurd ask
 verify_told contents (first ∷ others) v ask = ask.2
 
-holds : (words : List (List ℕ)) (v : AskedVerify) (files later : ToldFiles) (report : Report Status) (old new : ToldSink) (status : Status) → AskForVerify files.content words v → IsReportOn words files later report → IsWritten report old new status →
+holds : (run : Dialled) (words : List (List ℕ)) (v : AskedVerify) (files later : ToldFiles) (report : Report Status) (old new : ToldSink) (status : Status) → AskForVerify files.content words v → IsReportOn run words files later report → IsWritten report old new status →
     (a : Alphabet) (s i : System) (cert : Cert) → IsVerifiable files.content v a s i cert → status ≡ Accepted → IsTrue cert.mode i s cert.body
-holds words v files later report old new status ask reported written a s i cert is accepted =
-    let (t, answers) = accepted_answers files.content v report (verify_reported words v files later report ask reported) (written_accepted report old new status written accepted) in
+holds run words v files later report old new status ask reported written a s i cert is accepted =
+    let (t, answers) = accepted_answers files.content v report (verify_reported run words v files later report ask reported) (written_accepted report old new status written accepted) in
     let sound = systems_sound files.content (verify_sources v) a (s ∷ i ∷ []) is.systems in
     accepted_true i s cert (sound 1 i (omega arith)) (sound 0 s (omega arith)) (verified_moved files.content v Verified t a s i cert (verify_told files.content words v ask) answers is.systems is.read)
 
@@ -157,18 +158,18 @@ module _ (contents : Contents) (v : AskedVerify) (text : List ℕ) (has : conten
       go (inr (able, (answer, decided, is, told))) =
           (verify_text c.answers.a.texts Verified, answers_for c.q c.answers.a c.answers.s c.answers.i answer c.outcome systems (limits_askable c.words c.q c.asks) c.made decided is (with_cert answer told))
 
-accepts : (words : List (List ℕ)) (v : AskedVerify) (contents : Contents) (status : Status) → AskForVerify contents words v → IsAnswered contents words status →
+accepts : (run : Dialled) (words : List (List ℕ)) (v : AskedVerify) (contents : Contents) (status : Status) → AskForVerify contents words v → IsAnswered run contents words status →
     (text : List ℕ) → contents v.cert ≡ Some text → IsCertified contents v text → IsBut Accepted status
-accepts [] v contents status ask answered text has c = absurd ask
-accepts (first ∷ others) v contents status (is, ask, told) answered text has c =
-    let by : IsByCommand verify_command verify_status contents others status = subst (λ (n : Option Name). IsByName n contents others status) is answered in
+accepts run [] v contents status ask answered text has c = absurd ask
+accepts run (first ∷ others) v contents status (is, ask, told) answered text has c =
+    let by : IsByCommand verify_command verify_status true contents others status = subst (λ (n : Option Name). IsByName run n contents others status) is answered in
     let (t, answers) = answers_certified contents v text has c in
-    (by.page v ask told).answered Verified t answers
+    (by.page v ask told).answered refl Verified t answers
 
 -- what `verify` answers is sound, and complete for what `check` certifies
-pub audited : (words : List (List ℕ)) (files later : ToldFiles) (report : Report Status) (old new : ToldSink) (status : Status) → IsReportOn words files later report → IsWritten report old new status → IsAnswered files.content words status →
+pub audited : (run : Dialled) (words : List (List ℕ)) (files later : ToldFiles) (report : Report Status) (old new : ToldSink) (status : Status) → IsReportOn run words files later report → IsWritten report old new status → IsAnswered run files.content words status →
     (v : AskedVerify) → AskForVerify files.content words v → IsAudit files.content v status
-audited words files later report old new status reported written answered v ask = record {
-  holds = holds words v files later report old new status ask reported written;
-  accepts = accepts words v files.content status ask answered;
+audited run words files later report old new status reported written answered v ask = record {
+  holds = holds run words v files later report old new status ask reported written;
+  accepts = accepts run words v files.content status ask answered;
 }

@@ -1,5 +1,5 @@
 -- The contents of the files decide what a report says, but for failures.
-use Rattle.std.proofs.Common.{◌≡◌, ◌∙◌, ℕ, List, [], ◌∷◌, Option, Some, None, Result, Ok, Err, inl, inr, ◌⊎◌, sym, ap, subst}
+use Rattle.std.proofs.Common.{◌≡◌, ◌∙◌, Bool, true, false, ℕ, List, [], ◌∷◌, Option, Some, None, Result, Ok, Err, inl, inr, ◌⊎◌, sym, ap, subst}
 use Rattle.edge_io.specs.Outside.{ToldFiles, ToldSink}
 use Rattle.torx_words.specs.Form.{Reading}
 use Rattle.torx_words.specs.Accepted.{accepted, asked, asked_by}
@@ -11,7 +11,7 @@ use Rattle.tool_base.specs.declared.refusal.Stop.{Stop}
 use Rattle.tool_base.specs.declared.refusal.Stop.TheVariants.{Usage as BadWords, Refused, Memory as NoRoom}
 use Rattle.tool_base.specs.declared.report.Report.{Report}
 use Rattle.tool_base.specs.Contents.{Contents, AreTold}
-use Rattle.tool_base.specs.Once.{IsOnce}
+use Rattle.tool_base.specs.Once.{IsOnce, IsRefusedOnce}
 use Rattle.tool_base.specs.Pages.{Page, Command, Answers, AnswersReading, IsFault, IsOnPage, IsUsage}
 use Rattle.cmd_check.proofs.OnceLaws.{check_once}
 use Rattle.cmd_verify.proofs.OnceLaws.{verify_once}
@@ -19,8 +19,11 @@ use Rattle.cmd_outs.proofs.OnceLaws.{outs_once}
 use Rattle.cmd_angelic.proofs.OnceLaws.{angelic_once}
 use Rattle.cmd_replay.proofs.OnceLaws.{replay_once, migrate_once}
 use Rattle.cmd_demo.proofs.OnceLaws.{demo_once}
+use Rattle.cmd_drive.specs.Dialled.{Dialled}
+use Rattle.cmd_drive.proofs.OnceLaws.{drive_refused_once, rehearse_refused_once}
+use Rattle.std.proofs.lemmas.Bool.{false≢true}
 use Rattle.torx_tool.specs.declared.commands.Name.{Name}
-use Rattle.torx_tool.specs.declared.commands.Name.TheVariants.{Check, Verify, Outs, Angelic, Replay, Migrate, Demo}
+use Rattle.torx_tool.specs.declared.commands.Name.TheVariants.{Check, Verify, Outs, Angelic, Replay, Migrate, Demo, Drive, Rehearse}
 use Rattle.torx_tool.specs.declared.status.Status.{Status}
 use Rattle.torx_tool.specs.declared.status.Status.TheVariants.{Usage}
 use Rattle.torx_tool.specs.Commands.{named, Row, row}
@@ -99,10 +102,14 @@ by_usage {A} {O} command status words kind old new report ask (result, answers, 
     go (Err NoRoom) h told = inr (memory_fails report told)
 
 -- what a page refuses, where it is so once, is refused
-refused_by : {O : Type 0} (page : Page O) (status : O → Status) (report : Report Status) (r : Refusal) → IsOnce page → IsByReport page status report → page.refuses r → IsRefusedBy r report.outcome
+refused_by : {O : Type 0} (page : Page O) (status : O → Status) (report : Report Status) (r : Refusal) → IsRefusedOnce page → IsByReport page status report → page.refuses r → IsRefusedBy r report.outcome
 refused_by page status report r once (inl failure) why = inr failure
 refused_by page status report r once (inr (inl other)) why = inl (other.refusal, once.refused r other.refusal why other.refuses, ap (λ (x : Report Status). x.outcome) other.is)
 refused_by page status report r once (inr (inr answer)) why = absurd (once.apart r answer.outcome answer.text why answer.answers)
+
+-- what is so once is refused once
+pub refused_once : {O : Type 0} (page : Page O) → IsOnce page → IsRefusedOnce page
+refused_once page once = record { refused = once.refused; apart = once.apart }
 
 -- what it answers is answered
 answered_by : {O : Type 0} (page : Page O) (status : O → Status) (report : Report Status) (o : O) (t : List ℕ) → IsOnce page → IsByReport page status report → page.answers o t → IsBut (status o) report.outcome
@@ -111,21 +118,30 @@ answered_by page status report o t once (inr (inl other)) due = absurd (once.apa
 answered_by page status report o t once (inr (inr answer)) due =
     inl (ap (λ (x : Report Status). x.outcome) answer.is ∙ ap status (once.answered answer.outcome o answer.text t answer.answers due))
 
-exact_page : {A O : Type 0} (command : Command A O) (status : O → Status) (words : List (List ℕ)) (x : A) (old new : ToldFiles) (report : Report Status) → asked command.shape command.asked words ≡ Ok x → Reports command status words old new report →
-    IsOnce (command.page old.content x) → IsByPage (command.page old.content x) status report.outcome
-exact_page command status words x old new report ask h once =
+-- the page refuses once; and where the contents decide its outcome, it answers once
+pub record IsOnceBy {O : Type 0} (page : Page O) (decided : Bool) : Type 0 where
+  pub refuses : IsRefusedOnce page
+  pub answers : decided ≡ true → IsOnce page
+
+decided_once : {O : Type 0} (page : Page O) → IsOnce page → IsOnceBy page true
+decided_once page once = record { refuses = refused_once page once; answers = λ is. once }
+
+exact_page : {A O : Type 0} (command : Command A O) (status : O → Status) (decided : Bool) (words : List (List ℕ)) (x : A) (old new : ToldFiles) (report : Report Status) → asked command.shape command.asked words ≡ Ok x → Reports command status words old new report →
+    IsOnceBy (command.page old.content x) decided → IsByPage (command.page old.content x) status decided report.outcome
+exact_page command status decided words x old new report ask h once =
     let told = by_page command status words x old new report ask h in
     record {
-      refused = λ r why. refused_by (command.page old.content x) status report r once told why;
-      answered = λ o t due. answered_by (command.page old.content x) status report o t once told due;
+      refused = λ r why. refused_by (command.page old.content x) status report r once.refuses told why;
+      answered = λ is o t due. answered_by (command.page old.content x) status report o t (once.answers is) told due;
     }
 
 -- a report is what is due for the words and the contents, where the command answers one thing
-exact : {A O : Type 0} (command : Command A O) (status : O → Status) (words : List (List ℕ)) (old new : ToldFiles) (report : Report Status) →
-    ((x : A) → AreTold old.content (command.page old.content x).names → IsOnce (command.page old.content x)) → Reports command status words old new report → IsByCommand command status old.content words report.outcome
-exact command status words old new report once h = record {
+exact : {A O : Type 0} (command : Command A O) (status : O → Status) (decided : Bool) (words : List (List ℕ)) (old new : ToldFiles) (report : Report Status) →
+    ((x : A) → AreTold old.content (command.page old.content x).names → IsOnceBy (command.page old.content x) decided) → Reports command status words old new report →
+    IsByCommand command status decided old.content words report.outcome
+exact command status decided words old new report once h = record {
   usage = λ kind why. by_usage command status words kind old new report why h;
-  page = λ x ask told. exact_page command status words x old new report ask h (once x told);
+  page = λ x ask told. exact_page command status decided words x old new report ask h (once x told);
 }
 
 -- so is that of words that are no command
@@ -133,42 +149,44 @@ no_command : (kind : UsageKind) (report : Report Status) → IsReport (stop_repo
 no_command kind report (inl is) = inl (ap (λ (x : Report Status). x.outcome) is)
 no_command kind report (inr memory) = inr (memory_fails report memory)
 
--- each command answers one thing for what it is asked for and the contents of its files
-row_once : (name : Name) (contents : Contents) (x : (row name).Asked) → AreTold contents ((row name).command.page contents x).names → IsOnce ((row name).command.page contents x)
-row_once Check contents x told = check_once contents x told
-row_once Verify contents x told = verify_once contents x told
-row_once Outs contents x told = outs_once contents x told
-row_once Angelic contents x told = angelic_once contents x told
-row_once Replay contents x told = replay_once contents x told
-row_once Migrate contents x told = migrate_once contents x told
-row_once Demo contents x told = demo_once contents x
+-- each command answers one thing for what it is asked for and the contents of its files, or refuses it for one cause
+row_once : (run : Dialled) (name : Name) (contents : Contents) (x : (row run name).Asked) → AreTold contents ((row run name).command.page contents x).names → IsOnceBy ((row run name).command.page contents x) (row run name).decided
+row_once run Check contents x told = decided_once _ (check_once contents x told)
+row_once run Verify contents x told = decided_once _ (verify_once contents x told)
+row_once run Outs contents x told = decided_once _ (outs_once contents x told)
+row_once run Angelic contents x told = decided_once _ (angelic_once contents x told)
+row_once run Replay contents x told = decided_once _ (replay_once contents x told)
+row_once run Migrate contents x told = decided_once _ (migrate_once contents x told)
+row_once run Demo contents x told = decided_once _ (demo_once contents x)
+row_once run Drive contents x told = record { refuses = drive_refused_once run contents x told; answers = λ is. absurd (false≢true is) }
+row_once run Rehearse contents x told = record { refuses = rehearse_refused_once contents x told; answers = λ is. absurd (false≢true is) }
 
-exact_name : (name : Option Name) (words : List (List ℕ)) (old new : ToldFiles) (report : Report Status) → ReportsBy name words old new report → IsByName name old.content words report.outcome
-exact_name (Some name) words old new report h = exact (row name).command (row name).status words old new report (row_once name old.content) h
-exact_name None words old new report h = no_command UnknownCommand report h
+exact_name : (run : Dialled) (name : Option Name) (words : List (List ℕ)) (old new : ToldFiles) (report : Report Status) → ReportsBy run name words old new report → IsByName run name old.content words report.outcome
+exact_name run (Some name) words old new report h = exact (row run name).command (row run name).status (row run name).decided words old new report (row_once run name old.content) h
+exact_name run None words old new report h = no_command UnknownCommand report h
 
-pub exact_report : (words : List (List ℕ)) (old new : ToldFiles) (report : Report Status) → IsReportOn words old new report → IsAnswered old.content words report.outcome
-exact_report [] old new report h = no_command NoCommand report h
-exact_report (first ∷ others) old new report h = exact_name (named first) others old new report h
+pub exact_report : (run : Dialled) (words : List (List ℕ)) (old new : ToldFiles) (report : Report Status) → IsReportOn run words old new report → IsAnswered run old.content words report.outcome
+exact_report run [] old new report h = no_command NoCommand report h
+exact_report run (first ∷ others) old new report h = exact_name run (named first) others old new report h
 
 -- ---- a failure says nothing
 
-failed_command : {A O : Type 0} (command : Command A O) (status_of : O → Status) (contents : Contents) (words : List (List ℕ)) (status : Status) → IsFailure status → IsByCommand command status_of contents words status
-failed_command command status_of contents words status failure = record {
+failed_command : {A O : Type 0} (command : Command A O) (status_of : O → Status) (decided : Bool) (contents : Contents) (words : List (List ℕ)) (status : Status) → IsFailure status → IsByCommand command status_of decided contents words status
+failed_command command status_of decided contents words status failure = record {
   usage = λ kind why. inr failure;
-  page = λ x ask told. record { refused = λ r why. inr failure; answered = λ o t due. inr failure };
+  page = λ x ask told. record { refused = λ r why. inr failure; answered = λ is o t due. inr failure };
 }
 
-failed_name : (name : Option Name) (contents : Contents) (words : List (List ℕ)) (status : Status) → IsFailure status → IsByName name contents words status
-failed_name (Some name) contents words status failure = failed_command (row name).command (row name).status contents words status failure
-failed_name None contents words status failure = inr failure
+failed_name : (run : Dialled) (name : Option Name) (contents : Contents) (words : List (List ℕ)) (status : Status) → IsFailure status → IsByName run name contents words status
+failed_name run (Some name) contents words status failure = failed_command (row run name).command (row run name).status (row run name).decided contents words status failure
+failed_name run None contents words status failure = inr failure
 
-pub failed_answer : (words : List (List ℕ)) (contents : Contents) (status : Status) → IsFailure status → IsAnswered contents words status
-failed_answer [] contents status failure = inr failure
-failed_answer (first ∷ others) contents status failure = failed_name (named first) contents others status failure
+pub failed_answer : (run : Dialled) (words : List (List ℕ)) (contents : Contents) (status : Status) → IsFailure status → IsAnswered run contents words status
+failed_answer run [] contents status failure = inr failure
+failed_answer run (first ∷ others) contents status failure = failed_name run (named first) contents others status failure
 
 -- what is written of a report is what is due as well, but for failures
-pub written_answer : (words : List (List ℕ)) (contents : Contents) (report : Report Status) (old new : ToldSink) (status : Status) → IsAnswered contents words report.outcome → IsWritten report old new status → IsAnswered contents words status
-written_answer words contents report old new status due (inl (out, memory, none)) = failed_answer words contents status (subst IsFailure (sym memory) tt)
-written_answer words contents report old new status due (inr (some, inl (is, appended))) = subst (IsAnswered contents words) (sym is) due
-written_answer words contents report old new status due (inr (some, inr (fault, fails, front))) = failed_answer words contents status (subst IsFailure (sym fault) tt)
+pub written_answer : (run : Dialled) (words : List (List ℕ)) (contents : Contents) (report : Report Status) (old new : ToldSink) (status : Status) → IsAnswered run contents words report.outcome → IsWritten report old new status → IsAnswered run contents words status
+written_answer run words contents report old new status due (inl (out, memory, none)) = failed_answer run words contents status (subst IsFailure (sym memory) tt)
+written_answer run words contents report old new status due (inr (some, inl (is, appended))) = subst (IsAnswered run contents words) (sym is) due
+written_answer run words contents report old new status due (inr (some, inr (fault, fails, front))) = failed_answer run words contents status (subst IsFailure (sym fault) tt)

@@ -25,6 +25,7 @@ use Rattle.cmd_check.proofs.OnceLaws.{lacking_unable, sound_pair, verdict_moved}
 use Rattle.torx_tool.specs.declared.commands.Name.{Name}
 use Rattle.torx_tool.specs.declared.status.Status.{Status}
 use Rattle.torx_tool.specs.Status.{check_status, IsFailure}
+use Rattle.cmd_drive.specs.Dialled.{Dialled}
 use Rattle.torx_tool.specs.Run.{ReportsBy, IsReportOn, IsWritten}
 use Rattle.torx_tool.specs.Headline.{AskForCheck, IsComparable, HasRoom, HasRoomUpTo, IsCutBy, IsRight, Tells, Prints, IsSettled}
 use Rattle.torx_tool.proofs.ExactLaws.{IsByReport, by_page}
@@ -138,13 +139,13 @@ by_report contents words q a s i report old new status files (inr (inr answer)) 
     go (inr (able, tells)) = printed q a s i answer.outcome answer.text report old new status sound.0 sound.1 sound.2 tells answer.is written
 
 -- the report on words that ask for `check`
-check_reported : (words : List (List ℕ)) (q : AskedCheck) (old new : ToldFiles) (report : Report Status) → AskForCheck words q → IsReportOn words old new report → IsByReport (check_page old.content q) check_status report
-check_reported [] q old new report ask h = absurd ask
-check_reported (first ∷ others) q old new report (is, ask) h =
-    by_page check_command check_status others q old new report ask (subst (λ (n : Option Name). ReportsBy n others old new report) is h)
+check_reported : (run : Dialled) (words : List (List ℕ)) (q : AskedCheck) (old new : ToldFiles) (report : Report Status) → AskForCheck words q → IsReportOn run words old new report → IsByReport (check_page old.content q) check_status report
+check_reported run [] q old new report ask h = absurd ask
+check_reported run (first ∷ others) q old new report (is, ask) h =
+    by_page check_command check_status others q old new report ask (subst (λ (n : Option Name). ReportsBy run n others old new report) is h)
 
 -- what `check` answers for files that can be compared settles the matter
-pub headline : (words : List (List ℕ)) (files later : ToldFiles) (report : Report Status) (old new : ToldSink) (status : Status) → IsReportOn words files later report → IsWritten report old new status →
+pub headline : (run : Dialled) (words : List (List ℕ)) (files later : ToldFiles) (report : Report Status) (old new : ToldSink) (status : Status) → IsReportOn run words files later report → IsWritten report old new status →
     (q : AskedCheck) (a : Alphabet) (s i : System) → IsComparable files.content words q a s i → IsSettled q a s i old new status
-headline words files later report old new status reported written q a s i comparable =
-    by_report files.content words q a s i report old new status comparable (check_reported words q files later report comparable.asks reported) written
+headline run words files later report old new status reported written q a s i comparable =
+    by_report files.content words q a s i report old new status comparable (check_reported run words q files later report comparable.asks reported) written

@@ -2,3 +2,4 @@ mod RoomLaws
 mod ExactLaws
 mod HeadlineLaws
 mod AuditLaws
+mod ServedLaws

@@ -4,6 +4,7 @@ use Rattle.edge_io.specs.Outside.{ToldFiles, ToldSink}
 use Rattle.torx_words.specs.declared.kind.WordsError.{WordsError}
 use Rattle.tool_base.specs.declared.report.Report.{Report}
 use Rattle.tool_base.specs.Pages.{stop_of}
+use Rattle.cmd_drive.specs.Dialled.{Dialled}
 use Rattle.torx_tool.specs.declared.status.Status.{Status}
 use Rattle.torx_tool.specs.Run.{stop_report, IsReport, IsWritten, IsRun}
 
@@ -18,7 +19,7 @@ pub record IsRefusedRun (error : WordsError) (before after : ToldSink) (status :
   pub reported : IsReport (stop_report (stop_of error)) report
   pub written : IsWritten report before after status
 
--- what is answered and printed, with files that were so before and after
-abbrev pub IsRunOn : {Z : Type 0} → Result (Vec (String Z) Z) WordsError → ToldFiles → ToldFiles → ToldSink → ToldSink → Status → Type 0
-IsRunOn (Ok all) old new before after status = IsRun (map string_bytes (after_name all.items)) old new before after status
-IsRunOn (Err error) old new before after status = IsRefusedRun error before after status
+-- what is answered and printed, with a dialer and files that were so before and after
+abbrev pub IsRunOn : {Z : Type 0} → Dialled → Result (Vec (String Z) Z) WordsError → ToldFiles → ToldFiles → ToldSink → ToldSink → Status → Type 0
+IsRunOn run (Ok all) old new before after status = IsRun run (map string_bytes (after_name all.items)) old new before after status
+IsRunOn run (Err error) old new before after status = IsRefusedRun error before after status

@@ -7,6 +7,7 @@ use Rattle.tool_base.specs.declared.refusal.Stop.TheVariants.{Usage as BadWords,
 use Rattle.tool_base.specs.declared.report.Report.{Report}
 use Rattle.tool_base.specs.Pages.{Command, Answers}
 use Rattle.tool_base.specs.Texts.{usage_text, refusal_text}
+use Rattle.cmd_drive.specs.Dialled.{Dialled}
 use Rattle.torx_tool.specs.declared.commands.Name.{Name}
 use Rattle.torx_tool.specs.declared.status.Status.{Status}
 use Rattle.torx_tool.specs.declared.status.Status.TheVariants.{Usage, OutFault, Memory}
@@ -37,14 +38,14 @@ abbrev pub Reports : {A O : Type 0} → Command A O → (O → Status) → List 
 Reports {O = O} command status words old new report =
     (result : Result (Report O) Stop) × Answers command words old new result × IsReport (report_of status result) report
 
-abbrev pub ReportsBy : Option Name → List (List ℕ) → ToldFiles → ToldFiles → Report Status → Type 0
-ReportsBy (Some name) words old new report = Reports (row name).command (row name).status words old new report
-ReportsBy None words old new report = IsReport (stop_report (BadWords UnknownCommand)) report
+abbrev pub ReportsBy : Dialled → Option Name → List (List ℕ) → ToldFiles → ToldFiles → Report Status → Type 0
+ReportsBy run (Some name) words old new report = Reports (row run name).command (row run name).status words old new report
+ReportsBy run None words old new report = IsReport (stop_report (BadWords UnknownCommand)) report
 
--- the report on all words
-abbrev pub IsReportOn : List (List ℕ) → ToldFiles → ToldFiles → Report Status → Type 0
-IsReportOn [] old new report = IsReport (stop_report (BadWords NoCommand)) report
-IsReportOn (first ∷ others) old new report = ReportsBy (named first) others old new report
+-- the report on all words, with a dialer and files that were so before and after it
+abbrev pub IsReportOn : Dialled → List (List ℕ) → ToldFiles → ToldFiles → Report Status → Type 0
+IsReportOn run [] old new report = IsReport (stop_report (BadWords NoCommand)) report
+IsReportOn run (first ∷ others) old new report = ReportsBy run (named first) others old new report
 
 -- the whole text of the report is written, and its answer is given; or the output failed after a front of it
 abbrev pub IsPut : Report Status → ToldSink → ToldSink → Status → Type 0
@@ -56,8 +57,9 @@ abbrev pub IsWritten : Report Status → ToldSink → ToldSink → Status → Ty
 IsWritten report old new status = ((report.outcome ≡ Memory) × (status ≡ Memory) × AppendsTo old new []) ⊎
     (¬ (report.outcome ≡ Memory) × IsPut report old new status)
 
--- the answer is that of a report on the words, with files that were so before and after the run, and its text is written
-pub record IsRun (words : List (List ℕ)) (old new : ToldFiles) (before after : ToldSink) (status : Status) : Type 0 where
+-- the answer is that of a report on the words, with a dialer and files that were so before and after the run, and its text is
+-- written
+pub record IsRun (run : Dialled) (words : List (List ℕ)) (old new : ToldFiles) (before after : ToldSink) (status : Status) : Type 0 where
   pub report : Report Status
-  pub reported : IsReportOn words old new report
+  pub reported : IsReportOn run words old new report
   pub written : IsWritten report before after status

@@ -16,13 +16,25 @@ use Rattle.log_report.specs.declared.replayed.ReplayOutcome.{ReplayOutcome}
 use Rattle.log_report.specs.declared.migrated.MigrateOutcome.{MigrateOutcome}
 use Rattle.log_report.specs.declared.migrated.MigrateOutcome.TheVariants.{Printed as Migrated, NotOf as NotMigrated}
 use Rattle.torx_words.specs.declared.kind.UsageKind.TheVariants.{Value}
+use Rattle.session_core.specs.declared.verdict.Verdict.{Verdict}
+use Rattle.session_core.specs.declared.verdict.Verdict.TheVariants.{Pass, Fail}
+use Rattle.cmd_drive.specs.declared.outcome.DriveOutcome.{DriveOutcome}
+use Rattle.cmd_drive.specs.declared.outcome.DriveOutcome.TheVariants.{Ended as Driven, Full as DrivenFull, Broken as DrivenBroken}
+use Rattle.cmd_drive.specs.declared.rehearse_outcome.RehearseOutcome.{RehearseOutcome}
+use Rattle.cmd_drive.specs.declared.rehearse_outcome.RehearseOutcome.TheVariants.{NotEnabled as NotRehearsed, Went}
 use Rattle.torx_tool.specs.declared.status.LimitWhat.TheVariants.{Moves}
 use Rattle.torx_tool.specs.declared.status.Status.{Status}
-use Rattle.torx_tool.specs.declared.status.Status.TheVariants.{Conforms, Violates, Undecided, Accepted, Rejected, Printed, Absent, Replayed, NotOf, Limit, Usage, TooLong, BadFile, BadLabels, Divergent, NotEnabled, FileFault, OutFault, Memory}
+use Rattle.torx_tool.specs.declared.status.Status.TheVariants.{Conforms, Violates, Undecided, Accepted, Rejected, Printed, Absent, Replayed, NotOf, Ended, SessionFull, LinkFault, Limit, Usage, TooLong, BadFile, BadLabels, Divergent, NotEnabled, FileFault, OutFault, Memory}
 
 -- the exit status of a replay: some log fails, or else some log is off
 abbrev pub replayed_code : ℕ → ℕ → ℕ
 replayed_code fails offs = if nat_lt 0 fails then 1 else (if nat_lt 0 offs then 2 else 0)
+
+-- the exit status of a session: it passed, it failed, or it ended in another way
+abbrev pub ended_code : Verdict → ℕ
+ended_code Pass = 0
+ended_code (Fail place) = 1
+ended_code other = 2
 
 -- the exit status of each answer
 abbrev pub code_of : Status → ℕ
@@ -35,6 +47,9 @@ code_of Printed = 0
 code_of (Absent place) = 1
 code_of (Replayed fails offs) = replayed_code fails offs
 code_of (NotOf log) = 1
+code_of (Ended verdict) = ended_code verdict
+code_of (SessionFull reached) = 2
+code_of (LinkFault session) = 7
 code_of (Limit what reached) = 2
 code_of (Usage kind) = 3
 code_of (TooLong name) = 4
@@ -66,6 +81,16 @@ replay_status outcome = Replayed outcome.fails outcome.offs
 abbrev pub migrate_status : MigrateOutcome → Status
 migrate_status Migrated = Printed
 migrate_status (NotMigrated log) = NotOf log
+
+-- a drive has one session, which is number 1
+abbrev pub drive_status : DriveOutcome → Status
+drive_status (Driven verdict) = Ended verdict
+drive_status (DrivenFull reached) = SessionFull reached
+drive_status DrivenBroken = LinkFault 1
+
+abbrev pub rehearse_status : RehearseOutcome → Status
+rehearse_status (NotRehearsed name state input) = NotEnabled name state input
+rehearse_status (Went outcome) = drive_status outcome
 
 abbrev pub angelic_status : AngelicOutcome → Status
 angelic_status Completed = Printed

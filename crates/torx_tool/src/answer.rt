@@ -1,26 +1,34 @@
 //! What is answered and printed, from the words and the files.
 ghost use Rattle.std.specs.Prelude.{◌≡◌, map, string_bytes};
 ghost use Rattle.edge_io.specs.Outside.{KeepsFiles};
+ghost use Rattle.cmd_drive.specs.Dialled.{dialled};
+ghost use Rattle.torx_tool.specs.Served.{IsServed};
 ghost use Rattle.torx_tool.specs.Run.{no_memory as report_of_no_memory, stop_report, IsReport, IsReportOn};
 
 use crate::commands::{command_named, command_report};
 use crate::status::{Status, refusal_status};
-use edge_io::Files;
+use edge_io::{Dialer, Files};
 use lts_base::Listed;
 use std::alloc::Global;
 use tool_base::{Refusal, Report, Stop, refusal_text, usage_text};
 use torx_words::UsageKind;
 
 /// The report on the words.
-pub fn answer<F: Files>(alloc: Global, words: &[String], files: &mut F) -> Report<Status>
-    ensures report { IsReportOn (map string_bytes words.now) (F.told files.old) (F.told files.new) result }
+pub fn answer<F: Files, D: Dialer>(
+    alloc: Global,
+    words: &[String],
+    files: &mut F,
+    dialer: &mut D,
+) -> Report<Status>
+    ensures report { IsReportOn (dialled D.Link.gives (D.told dialer.old) (D.told dialer.new)) (map string_bytes words.now) (F.told files.old) (F.told files.new) result }
+    ensures served { IsServed (map string_bytes words.now) (D.told dialer.old) (D.told dialer.new) result.outcome }
     ensures keeps { KeepsFiles (F.told files.old) (F.told files.new) }
 {
     let [first, others @ ..] = words else {
         return refused_words(alloc, UsageKind::NoCommand);
     };
     match command_named(first.as_str()) {
-        Some(name) => command_report(alloc, name, others, files),
+        Some(name) => command_report(alloc, name, others, files, dialer),
         None => refused_words(alloc, UsageKind::UnknownCommand),
     }
 }

@@ -1,18 +1,21 @@
 //! The table of commands: their names, and what each answers.
 ghost use Rattle.std.specs.Prelude.{◌≡◌, map, string_bytes, Some};
+ghost use Rattle.cmd_drive.specs.Dialled.{dialled};
 ghost use Rattle.edge_io.specs.Outside.{KeepsFiles};
 ghost use Rattle.torx_tool.specs.Commands.{named};
 ghost use Rattle.torx_tool.specs.Run.{report_of, IsReport, ReportsBy};
+ghost use Rattle.torx_tool.specs.Served.{IsServedBy};
 
 use crate::answer::stopped;
 use crate::status::{Outcome, Status};
 use cmd_angelic::angelic;
 use cmd_check::check;
 use cmd_demo::demo;
+use cmd_drive::{drive, rehearse};
 use cmd_outs::outs;
 use cmd_replay::{migrate, replay};
 use cmd_verify::verify;
-use edge_io::Files;
+use edge_io::{Dialer, Files};
 use std::alloc::Global;
 use tool_base::{Report, Stop};
 
@@ -33,6 +36,10 @@ pub enum Name {
     Migrate,
     /// `demo`.
     Demo,
+    /// `drive`.
+    Drive,
+    /// `rehearse`.
+    Rehearse,
 }
 
 /// The command of this name.
@@ -53,19 +60,25 @@ pub fn command_named(word: &str) -> Option<Name>
         Some(Name::Migrate)
     } else if word == "demo" {
         Some(Name::Demo)
+    } else if word == "drive" {
+        Some(Name::Drive)
+    } else if word == "rehearse" {
+        Some(Name::Rehearse)
     } else {
         None
     }
 }
 
 /// The report of a command on the words after its name.
-pub fn command_report<F: Files>(
+pub fn command_report<F: Files, D: Dialer>(
     alloc: Global,
     name: Name,
     words: &[String],
     files: &mut F,
+    dialer: &mut D,
 ) -> Report<Status>
-    ensures report { ReportsBy (Some name) (map string_bytes words.now) (F.told files.old) (F.told files.new) result }
+    ensures report { ReportsBy (dialled D.Link.gives (D.told dialer.old) (D.told dialer.new)) (Some name) (map string_bytes words.now) (F.told files.old) (F.told files.new) result }
+    ensures served { IsServedBy (Some name) (map string_bytes words.now) (D.told dialer.old) (D.told dialer.new) result.outcome }
     ensures keeps { KeepsFiles (F.told files.old) (F.told files.new) }
 {
     match name {
@@ -76,6 +89,8 @@ pub fn command_report<F: Files>(
         Name::Replay => reported(alloc, replay(alloc, files, words)),
         Name::Migrate => reported(alloc, migrate(alloc, files, words)),
         Name::Demo => reported(alloc, demo(alloc, words)),
+        Name::Drive => reported(alloc, drive(alloc, files, dialer, words)),
+        Name::Rehearse => reported(alloc, rehearse(alloc, files, words)),
     }
 }
 

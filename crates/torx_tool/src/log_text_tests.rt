@@ -1,7 +1,7 @@
 //! Logs: texts, what `replay` reads of them, and the verdicts.
-use crate::run::run;
 use crate::table::{bytes_of, cell, is_case, number, words_of};
-use edge_io::{MemFiles, MemSink, NamedText, Numbers};
+use crate::tests::ran;
+use edge_io::{MemFiles, MemSink, NamedText, Numbers, SureDialer};
 use lts_base::{Listed, Memory};
 use std::alloc::{AllocError, Global};
 use std::process::Abort;
@@ -30,7 +30,13 @@ fn told(alloc: Global, log: &[u8]) -> Result<Vec<u8>, Memory> {
     let mut files = MemFiles::new(contents, Numbers::new(alloc));
     let mut out = MemSink::new(alloc, 1000, 1000, Numbers::new(alloc))?;
     let words = words_of(alloc, "replay S.aut l")?;
-    let _ = run(alloc, &words, &mut files, &mut out);
+    let _ = ran(
+        alloc,
+        &words,
+        &mut files,
+        &mut out,
+        &mut SureDialer::new(alloc),
+    );
     Ok(Vec::from_slice(alloc, out.written())?)
 }
 

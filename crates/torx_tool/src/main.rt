@@ -25,13 +25,15 @@ mod word_tests;
 
 use crate::program::{arguments, program};
 use edge_io::{HostFiles, HostSink};
+use line_link::TcpDialer;
 use std::process::ExitCode;
 use std::{env, io};
 
 fn main(rt: HostRuntime) -> ExitCode {
     let mut out = HostSink::new(io::writer(&rt));
     let mut files = HostFiles::new(&rt);
+    let mut dialer = TcpDialer::new(rt.alloc(), &rt);
     let given = arguments(rt.alloc(), env::args(&rt));
-    let status = program(rt.alloc(), given, &mut files, &mut out);
+    let status = program(rt.alloc(), given, &mut files, &mut out, &mut dialer);
     ExitCode::from(status.code())
 }

@@ -1,17 +1,19 @@
 //! The answers of the program, and their exit statuses.
 ghost use Rattle.std.specs.Prelude.{◌≡◌};
 ghost use Rattle.torx_tool.specs.declared.status.Status.{Status as TheStatus};
-ghost use Rattle.torx_tool.specs.Status.{code_of, check_status as status_of_check, verify_status as status_of_verify, outs_status as status_of_outs, angelic_status as status_of_angelic, replay_status as status_of_replay, migrate_status as status_of_migrate, demo_status as status_of_demo, replayed_code as code_of_replay, refusal_status as status_of_refusal};
+ghost use Rattle.torx_tool.specs.Status.{code_of, check_status as status_of_check, verify_status as status_of_verify, outs_status as status_of_outs, angelic_status as status_of_angelic, replay_status as status_of_replay, migrate_status as status_of_migrate, demo_status as status_of_demo, drive_status as status_of_drive, rehearse_status as status_of_rehearse, replayed_code as code_of_replay, ended_code as code_of_end, refusal_status as status_of_refusal};
 
 use cert_check::Checked;
 use cmd_angelic::AngelicOutcome;
 use cmd_check::CheckOutcome;
 use cmd_demo::DemoOutcome;
+use cmd_drive::{DriveOutcome, RehearseOutcome};
 use cmd_outs::OutsOutcome;
 use cmd_replay::{MigrateOutcome, ReplayOutcome};
 use cmd_verify::VerifyOutcome;
 use conf_decide::What;
 use lts_base::{Item, SplitError, StateList, Text, Trace};
+use session_core::Verdict;
 use tool_base::{FileError, Refusal};
 use torx_words::UsageKind;
 
@@ -72,6 +74,21 @@ pub enum Status {
         /// The first such log of version 1, counted from 1.
         log: u32,
     },
+    /// A session ended by its own rule.
+    Ended {
+        /// How.
+        verdict: Verdict,
+    },
+    /// The sets of a session would have more members than they may have.
+    SessionFull {
+        /// How many.
+        reached: u64,
+    },
+    /// A dial or a link failed.
+    LinkFault {
+        /// The session, counted from 1.
+        session: u32,
+    },
     /// A limit was passed.
     Limit {
         /// The limit.
@@ -130,7 +147,7 @@ pub enum Status {
 
 impl Status {
     /// The exit status of the program: 0 yes, 1 no, 2 not settled, 3 words, 4 content, 5 file,
-    /// 6 output, 8 memory.
+    /// 6 output, 7 link, 8 memory.
     pub fn code(&self) -> u8
         ensures { result ≡ code_of self.now }
     {
@@ -144,6 +161,9 @@ impl Status {
             Status::Absent { .. } => 1,
             Status::Replayed { fails, offs } => replayed_code(*fails, *offs),
             Status::NotOf { .. } => 1,
+            Status::Ended { verdict } => ended_code(*verdict),
+            Status::SessionFull { .. } => 2,
+            Status::LinkFault { .. } => 7,
             Status::Limit { .. } => 2,
             Status::Usage { .. } => 3,
             Status::TooLong { .. } => 4,
@@ -256,6 +276,42 @@ impl Outcome for DemoOutcome {
             },
             DemoOutcome::Decided(decision) => decision.status(),
         }
+    }
+}
+
+impl Outcome for DriveOutcome {
+    ghost due = { status_of_drive };
+
+    fn status(self) -> Status {
+        match self {
+            DriveOutcome::Ended { verdict } => Status::Ended { verdict },
+            DriveOutcome::Full { reached } => Status::SessionFull { reached },
+            DriveOutcome::Broken => Status::LinkFault { session: 1 },
+        }
+    }
+}
+
+impl Outcome for RehearseOutcome {
+    ghost due = { status_of_rehearse };
+
+    fn status(self) -> Status {
+        match self {
+            RehearseOutcome::NotEnabled { name, state, label } => {
+                Status::NotEnabled { name, state, label }
+            }
+            RehearseOutcome::Went { outcome } => outcome.status(),
+        }
+    }
+}
+
+/// The exit status of a session.
+fn ended_code(verdict: Verdict) -> u8
+    ensures { result ≡ code_of_end verdict }
+{
+    match verdict {
+        Verdict::Pass => 0,
+        Verdict::Fail(_) => 1,
+        Verdict::Ended | Verdict::Stalled | Verdict::Long => 2,
     }
 }
 

@@ -1,7 +1,8 @@
 //! Worked cases: words and files in memory, and what is printed for them.
 use crate::run::run;
+use crate::status::Status;
 use crate::table::{bytes_of, cell, is_case, number, words_of};
-use edge_io::{Contents, MemFiles, MemSink, NamedText, Numbers};
+use edge_io::{Contents, Dialer, Files, MemFiles, MemSink, NamedText, Numbers, Sink, SureDialer};
 use lts_base::{Listed, Memory};
 use std::alloc::Global;
 use std::process::Abort;
@@ -74,11 +75,28 @@ pub fn answers<R: Abort>(rt: &R, alloc: Global, files: &str, table: &str) -> Res
     Ok(())
 }
 
+/// Runs the words. Nothing is promised, so that whoever calls it is proved without a look at what `run` promises.
+pub fn ran<F: Files, S: Sink, D: Dialer>(
+    alloc: Global,
+    words: &[String],
+    files: &mut F,
+    out: &mut S,
+    dialer: &mut D,
+) -> Status {
+    run(alloc, words, files, out, dialer)
+}
+
 fn answer<R: Abort>(rt: &R, alloc: Global, files: &str, case: &str) -> Result<(), Fail> {
     let mut files = MemFiles::new(contents(alloc, files)?, Numbers::new(alloc));
     let mut out = MemSink::new(alloc, 1000, 1000, Numbers::new(alloc))?;
     let words = words_of(alloc, cell(case, 0))?;
-    let status = run(alloc, &words, &mut files, &mut out);
+    let status = ran(
+        alloc,
+        &words,
+        &mut files,
+        &mut out,
+        &mut SureDialer::new(alloc),
+    );
     let want = bytes_of(alloc, cell(case, 1))?;
     assert_eq!(rt; out.written(), want.as_slice(), "{case}");
     assert_eq!(rt; u64::from(status.code()), number(cell(case, 2)), "{case}");
@@ -246,7 +264,13 @@ fn tells_that_the_output_failed(rt: HostRuntime) -> Result<(), Fail> {
     let mut files = MemFiles::new(contents(alloc, FILES)?, Numbers::new(alloc));
     let mut out = MemSink::new(alloc, 1000, 4, fails)?;
     let words = words_of(alloc, "check S.aut I.aut")?;
-    let status = run(alloc, &words, &mut files, &mut out);
+    let status = ran(
+        alloc,
+        &words,
+        &mut files,
+        &mut out,
+        &mut SureDialer::new(alloc),
+    );
     assert_eq!(rt; out.written(), b"conf".as_slice());
     assert_eq!(rt; status.code(), 6);
     Ok(())
@@ -284,7 +308,13 @@ fn fails_at<R: Abort>(rt: &R, alloc: Global, files: &str, case: &str) -> Result<
     let mut files = MemFiles::new(contents(alloc, files)?, fails);
     let mut out = MemSink::new(alloc, 1000, 1000, Numbers::new(alloc))?;
     let words = words_of(alloc, cell(case, 0))?;
-    let status = run(alloc, &words, &mut files, &mut out);
+    let status = ran(
+        alloc,
+        &words,
+        &mut files,
+        &mut out,
+        &mut SureDialer::new(alloc),
+    );
     let want = bytes_of(alloc, cell(case, 2))?;
     assert_eq!(rt; out.written(), want.as_slice(), "{case}");
     assert_eq!(rt; status.code(), 5, "{case}");

@@ -1,5 +1,6 @@
 use Rattle.std.proofs.Common.{arith}
 use Rattle.session_core.proofs.PlayLaws.{played_next, done_less}
+use Rattle.session_core.proofs.StallLaws.{stalls_next}
 use Rattle.session_core.proofs.drive.drive_on.Goals as goal
 
 pub loop-verdict-smaller : goal.loop-verdict-smaller
@@ -12,6 +13,7 @@ loop-verdict-preserved g c =
     record {
       plays = played_next _ _ _ _ _ i.plays t.turned;
       later = record { faults = omega (arith, i.later.faults, t.later.faults); idles = omega (arith, i.later.idles, t.later.idles) };
+      stalled = stalls_next _ _ _ _ _ _ i.later t.later i.stalled t.stalled;
     }
 
 pub returns-in-Err : goal.returns-in-Err
@@ -21,5 +23,6 @@ returns-in-Err g c =
     record {
       driven = (_, i.plays, t.turned);
       broken = λ h. let r = t.broken h in record { rose = omega (arith, i.later.faults, r.rose) };
+      stalled = tt;
       later = record { faults = omega (arith, i.later.faults, t.later.faults); idles = omega (arith, i.later.idles, t.later.idles) };
     }

@@ -3,6 +3,7 @@ use Rattle.std.proofs.lemmas.Result.{err_from_is_err_and}
 use Rattle.edge_io.specs.declared.act.Act.TheVariants.{Looked, Listened, Gave}
 use Rattle.session_core.specs.Driven.{Picked, Acted}
 use Rattle.session_core.proofs.DueLaws.{due_look, due_hear, due_send, stopped_refused}
+use Rattle.session_core.proofs.StallLaws.{stalls_heard, stalls_chosen, stalls_sent}
 use Rattle.session_core.proofs.turn.turn_one.Goals as goal
 
 pub returns-in_err-event-in-Ask-clause-turned : goal.returns-in_err-event-in-Ask-clause-turned
@@ -61,3 +62,19 @@ returns-in_ok-event-in-Send-clause-turned g c =
       deed = Acted (Gave c.text-in-Send.result.now);
       does = ((due_send c.args.session.now.rules c.args.session.now.sitting.phase c.in-Send.input _ c.in-Send.ensures.action c.text-in-Send.ensures, put.ensures.gives, put.ensures.acts, refl), c.in_ok-event-in-Send.ensures.ok);
     }
+
+pub returns-in_ok-event-in-Ask-clause-stalled : goal.returns-in_ok-event-in-Ask-clause-stalled
+returns-in_ok-event-in-Ask-clause-stalled g c = stalls_chosen _ _ _ _ _ c.in_ok-event-in-Ask.ensures.ok
+
+pub returns-in_ok-event-in-Look-clause-stalled : goal.returns-in_ok-event-in-Look-clause-stalled
+returns-in_ok-event-in-Look-clause-stalled g c =
+    let met = c.in_ok-heard-in-Look in
+    stalls_heard _ _ _ _ met.heard (g.K.Link.told c.look.new.self).said (rw (c.event_of.ensures, c.text.ensures) at c.in_ok-event-in-Look.ensures.ok) met.ensures.idle
+
+pub returns-in_ok-event-in-Hear-clause-stalled : goal.returns-in_ok-event-in-Hear-clause-stalled
+returns-in_ok-event-in-Hear-clause-stalled g c =
+    let met = c.in_ok-heard-in-Hear in
+    stalls_heard _ _ _ _ met.heard (g.K.Link.told c.hear.new.self).said (rw (c.event_of-in-Hear.ensures, c.text-in-Hear.ensures) at c.in_ok-event-in-Hear.ensures.ok) met.ensures.idle
+
+pub returns-in_ok-event-in-Send-clause-stalled : goal.returns-in_ok-event-in-Send-clause-stalled
+returns-in_ok-event-in-Send-clause-stalled g c = stalls_sent _ _ _ _ c.in_ok-event-in-Send.ensures.ok

@@ -1,0 +1,10 @@
+pub mod DrawLaws
+pub mod FindLaws
+pub mod GoLaws
+pub mod HearLaws
+pub mod LeadLaws
+pub mod OrderLaws
+pub mod WayLaws
+pub mod LinkLaws
+pub mod SeenLaws
+pub mod ServeLaws

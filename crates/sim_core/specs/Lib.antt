@@ -1,0 +1,9 @@
+pub mod Acts
+pub mod Drawn
+pub mod Gone
+pub mod Linked
+pub mod Search
+pub mod Seen
+pub mod Served
+pub mod Session
+pub mod Simulated
