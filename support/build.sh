@@ -1,9 +1,10 @@
 #!/bin/sh
 # Builds the program where it isn't there, or where a source is newer, and says on standard error how far it is.
 # Words: the top of the repository, and then
-#   run WORD..  runs the program on these words then
-#   build       ends with status 0 where the program can be run
-#   note        builds nothing; notes the version of a program that another command built
+#   run WORD..       runs the program on these words then
+#   simulate WORD..  the same for the simulated implementation, which is a program of its own
+#   build            ends with status 0 where the program can be run
+#   note             builds nothing; notes the version of a program that another command built
 # The exit status is 127 where there is no program that can be run. With FITSOWAR_BUILD=never nothing is built, and
 # the program is taken as it stands.
 set -u
@@ -11,7 +12,10 @@ set -u
 top=$1
 task=$2
 shift 2
-program=$top/crates/torx_tool/out/torx_tool
+made=torx_tool
+[ "$task" != simulate ] || made=sim_tool
+crate=$top/crates/$made
+program=$crate/out/$made
 version=$program.version
 kept=$top/out
 lock=$kept/building
@@ -26,19 +30,19 @@ say() {
 
 # The crates that the program needs, lowest first, each with those that it stands on.
 needed() {
-    awk -v top=torx_tool -f "$top/support/needed.awk" "$top/crates.txt"
+    awk -v top="$made" -f "$top/support/needed.awk" "$top/crates.txt"
 }
 
 # Prints a file that the program is made from and that is newer than it. Folders count, as a file may be gone.
 # What noted the program's version bears the time at which its build began.
 newer_source() {
-    made=$program
-    [ -f "$version" ] && made=$version
+    mark=$program
+    [ -f "$version" ] && mark=$version
     set -- "$top/crates.txt"
     for name in $(needed | cut -d ' ' -f 1); do
         set -- "$@" "$top/crates/$name/src" "$top/crates/$name/specs" "$top/crates/$name/proofs"
     done
-    find "$@" -newer "$made" -print 2>/dev/null | head -n 1
+    find "$@" -newer "$mark" -print 2>/dev/null | head -n 1
 }
 
 # Waits a little. (Not every sleep knows parts of a second.)
@@ -215,9 +219,19 @@ build_all() {
     is_reading=1
     look
     tell
-    follow "$top/crates/torx_tool" all check --jobs "$jobs" || return 1
+    follow "$crate" all check --jobs "$jobs" || return 1
     is_linking=1
     tell
+}
+
+# Links the program and runs it once: the simulated implementation without words, which it refuses.
+link() {
+    if [ "$task" = simulate ]; then
+        follow "$crate" run
+        [ "$?" -eq 3 ]
+        return
+    fi
+    follow "$crate" run -- outs "$top/examples/coffee/specification.aut"
 }
 
 build() {
@@ -240,7 +254,7 @@ build() {
     else
         build_all || return 1
     fi
-    follow "$top/crates/torx_tool" run -- outs "$top/examples/coffee/specification.aut" || return 1
+    link || return 1
     [ -x "$program" ] || return 1
     note_version "$kept/began"
     say "built in $(spent)"
@@ -285,7 +299,7 @@ note)
     [ -f "$version" ] || ! is_current || note_version "$program"
     exit
     ;;
-run)
+run | simulate)
     ready || exit 127
     exec "$program" "$@"
     ;;

@@ -56,11 +56,12 @@ has() {
 
 # A copy of what a user works with, in a folder with blanks in its name.
 copy_repository() {
-    mkdir -p "$1/crates/torx_tool/out" &&
-        cp -R "$top/README.md" "$top/crates.txt" "$top/fitsowar" "$top/docs" "$top/examples" "$top/support" "$1" || return
-    if [ -x "$top/crates/torx_tool/out/torx_tool" ]; then
-        cp "$top/crates/torx_tool/out/torx_tool" "$1/crates/torx_tool/out/torx_tool" || return
-    fi
+    mkdir -p "$1/crates/torx_tool/out" "$1/crates/sim_tool/out" &&
+        cp -R "$top/README.md" "$top/crates.txt" "$top/fitsowar" "$top/simulate" "$top/docs" "$top/examples" "$top/support" "$1" || return
+    for made in torx_tool sim_tool; do
+        [ -x "$top/crates/$made/out/$made" ] || continue
+        cp "$top/crates/$made/out/$made" "$1/crates/$made/out/$made" || return
+    done
 }
 
 texts_are_true() {
@@ -199,7 +200,7 @@ small_repository() {
     rm -rf "$small" "$room/kit"
     mkdir -p "$small/crates/low/src" "$small/crates/high/src" "$small/crates/torx_tool/src" "$small/docs" \
         "$small/examples/coffee" "$room/kit"
-    cp -R "$top/support" "$top/fitsowar" "$small"
+    cp -R "$top/support" "$top/fitsowar" "$top/simulate" "$small"
     printf 'low:\nhigh: low\ntorx_tool: low high\nother: low\n' > "$small/crates.txt"
     : > "$small/examples/coffee/specification.aut"
     cat > "$room/kit/rt" <<'END'
@@ -364,6 +365,98 @@ sessions_over_tcp() {
     cd "$there" || return
 }
 
+# Starts the simulated implementation of the file $1, with the number $2 and $3 sessions, at a port that is free: the
+# port is in `port`, the process in `simulator`, and what it prints in simulated. Where another took the port, it is
+# started at another one.
+simulates() {
+    starts=0
+    while [ "$starts" -lt 5 ]; do
+        starts=$((starts + 1))
+        port=$(python3 -c 'import socket; s = socket.socket(); s.bind(("127.0.0.1", 0)); print(s.getsockname()[1])') || return
+        "$copy/simulate" "$1" "127.0.0.1:$port" "$2" "$3" > "$room/simulated" 2>&1 </dev/null &
+        simulator=$!
+        tries=0
+        while [ "$tries" -lt 200 ] && kill -0 "$simulator" 2>/dev/null; do
+            grep -q '^listening$' "$room/simulated" && return
+            sleep 0.05 2>/dev/null || sleep 1
+            tries=$((tries + 1))
+        done
+        kill "$simulator" 2>/dev/null
+        wait "$simulator" 2>/dev/null
+    done
+    cat "$room/simulated"
+    return 1
+}
+
+# The simulated implementation ends by itself, with status 0, and printed the lines on standard input.
+simulator_ends() {
+    tries=0
+    while [ "$tries" -lt 200 ] && kill -0 "$simulator" 2>/dev/null; do
+        sleep 0.05 2>/dev/null || sleep 1
+        tries=$((tries + 1))
+    done
+    kill "$simulator" 2>/dev/null
+    wait "$simulator" 2>/dev/null
+    status=$?
+    cat > "$room/wanted"
+    [ "$status" -eq 0 ] && same "$room/wanted" "$room/simulated"
+}
+
+# One session with the simulated implementation: what it is, STATUS, how the log ends, SPEC, and options of drive.
+driven() {
+    what=$1
+    wanted=$2
+    end=$3
+    spec=$4
+    shift 4
+    check "$what" ends "$wanted" "$copy/fitsowar" drive "$@" -- "$spec" "127.0.0.1:$port"
+    check "$what, its end" has "^$end\$"
+}
+
+# Two programs, each in a process of its own, over TCP.
+sessions_with_a_simulation() {
+    if ! command -v python3 > /dev/null 2>&1; then
+        skip "sessions with the simulated implementation: there is no python3"
+        return
+    fi
+    there=$(pwd)
+    cd "$copy" || return
+    coffee=examples/coffee
+    printf 'des (0,3,2)\n(0,"?a",1)\n(1,"!x",0)\n(1,"?a",1)\n' > "$room/RI.aut"
+    printf 'send ?a\nobserve\n' > "$room/script"
+    check "a simulation listens" simulates "$room/RI.aut" 0 1
+    driven "a session by a script" 0 'end 2 pass' "$room/RI.aut" --script "$room/script" --steps 2 --patience 5
+    tail -n 3 "$room/answer" > "$room/one"
+    printf 'sent ?a\nheard !x\nend 2 pass\n' > "$room/other"
+    check "its entries" same "$room/other" "$room/one"
+    check "that simulation ends" simulator_ends << END
+listening
+session 1 inputs=1 outputs=1 end
+END
+    check "a simulation of a machine listens" simulates $coffee/implementation.aut 5 3
+    driven "a simulated machine" 0 'end 2 pass' $coffee/specification.aut --goal $coffee/served
+    driven "the same machine again" 0 'end 2 pass' $coffee/specification.aut --goal $coffee/served
+    driven "the same machine, for quiescence" 0 'end 1 pass' $coffee/specification.aut --steps 1 --script /dev/null --patience 2
+    check "that simulation ends" simulator_ends << END
+listening
+session 1 inputs=1 outputs=1 end
+session 2 inputs=1 outputs=1 end
+session 3 inputs=0 outputs=0 end
+END
+    check "a simulation of a mutant listens" simulates $coffee/mutant.aut 0 1
+    driven "a simulated mutant" 1 'end [0-9]* fail' $coffee/specification.aut --seed 3 --steps 6 --patience 2
+    check "the mutant's output" has '^heard !milk$'
+    check "that simulation ends" simulator_ends << END
+listening
+session 1 inputs=1 outputs=1 end
+END
+    check "an address that isn't one" ends 7 "$copy/simulate" $coffee/mutant.aut 127.0.0.1 0 1
+    check "no session is told" [ ! -s "$room/answer" ]
+    check "a system that lacks an input" ends 4 "$copy/simulate" $coffee/specification.aut 127.0.0.1:0 0 1
+    check "what it lacks" has '^not-enabled examples/coffee/specification.aut state=1 input=?coin$'
+    cd "$there" || return
+}
+
 # The first run in the shell $1, beside other tests: what it says and its counts go to files.
 in_shell() {
     shell=$1
@@ -389,7 +482,7 @@ count_in() {
     fi
 }
 
-for script in "$top"/support/*.sh "$top/fitsowar" "$top"/examples/ci/*.sh "$top"/examples/adapter/*.sh; do
+for script in "$top"/support/*.sh "$top/fitsowar" "$top/simulate" "$top"/examples/ci/*.sh "$top"/examples/adapter/*.sh; do
     for shell in sh dash bash; do
         command -v "$shell" >/dev/null 2>&1 && check "$shell reads $script" "$shell" -n "$script"
     done
@@ -417,6 +510,11 @@ if [ -x "$copy/crates/torx_tool/out/torx_tool" ]; then
     sessions_over_tcp
 else
     skip "the texts, help, installation, completion and sessions: the program isn't built"
+fi
+if [ -x "$copy/crates/torx_tool/out/torx_tool" ] && [ -x "$copy/crates/sim_tool/out/sim_tool" ]; then
+    sessions_with_a_simulation
+else
+    skip "sessions with the simulated implementation: the programs aren't built"
 fi
 wait
 for shell in $shells; do

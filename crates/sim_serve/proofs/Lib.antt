@@ -1,0 +1,6 @@
+mod WordLaws
+mod TextLaws
+mod LetLaws
+mod ServeLaws
+mod ImpLaws
+mod ExactLaws

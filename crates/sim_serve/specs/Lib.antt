@@ -1,0 +1,10 @@
+pub mod Asked
+pub mod Status
+pub mod Told
+pub mod Report
+pub mod Loaded
+pub mod Sessions
+pub mod Serve
+pub mod Exact
+pub mod Turn
+pub mod Program
