@@ -2,6 +2,10 @@ pub mod LabelLaws
 pub mod PartsLaws
 pub mod FormLaws
 pub mod ReadLaws
+pub mod TextLaws
+pub mod ProgressLaws
+pub mod PieceLaws
+pub mod LoadLaws
 pub mod BuildLaws
 pub mod PrintLaws
 pub mod OnceLaws

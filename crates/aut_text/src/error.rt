@@ -4,7 +4,7 @@ use std::alloc::{AllocError, AllocFailed};
 use thiserror::Error;
 
 /// Why a content is no Aldebaran file. Lines are counted from 1.
-#[derive(Debug, Drop, Error)]
+#[derive(Clone, Copy, Debug, Error)]
 pub enum AutError {
     /// There is no header, or its start isn't below its states.
     #[error("header")]

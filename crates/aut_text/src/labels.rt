@@ -9,10 +9,10 @@ use std::alloc::Global;
 use std::marker::Model;
 
 /// How many places are kept of labels that were asked for.
-const SLOTS: usize = 1_024;
+const SLOTS: usize = 4_096;
 
-/// How many bytes of a label choose its slot.
-const SLOT_BYTES: usize = 16;
+/// An odd number whose products have well mixed first bits.
+const SPREAD: u64 = 0x9e37_79b9_7f4a_7c15;
 
 /// Distinct labels in the order in which they were first asked for.
 #[derive(Drop)]
@@ -113,13 +113,35 @@ impl LabelTable {
     }
 }
 
-/// The slot of a label, from its length and its first bytes.
+/// The slot of a label, from its length and its first and last bytes.
 fn slot_of(text: &[u8]) -> usize
-    ensures { result < 1_024 }
+    ensures { result < 4_096 }
 {
-    let mut slot = (text.len() % SLOTS) as u32;
-    for byte in text.iter().take(SLOT_BYTES) {
-        slot = slot.wrapping_mul(31).wrapping_add(*byte as u32);
+    let ends = front_of(text) ^ back_of(text).rotate_left(32) ^ text.len() as u64;
+    (ends.wrapping_mul(SPREAD) >> 52) as usize % SLOTS
+}
+
+/// The first bytes of a text as a number, or all bytes of a shorter one.
+fn front_of(text: &[u8]) -> u64 {
+    match text {
+        [a, b, c, d, e, f, g, h, ..] => u64::from_le_bytes([*a, *b, *c, *d, *e, *f, *g, *h]),
+        _ => number_of_few(text),
     }
-    slot as usize % SLOTS
+}
+
+/// The last bytes of a text as a number, where it is long.
+fn back_of(text: &[u8]) -> u64 {
+    match text {
+        [.., a, b, c, d, e, f, g, h] => u64::from_le_bytes([*a, *b, *c, *d, *e, *f, *g, *h]),
+        _ => 0,
+    }
+}
+
+/// The bytes of a short text as a number.
+fn number_of_few(text: &[u8]) -> u64 {
+    let mut number: u64 = 0;
+    for byte in text {
+        number = number << 8 | *byte as u64;
+    }
+    number
 }

@@ -1,6 +1,6 @@
 //! The line of a move.
 ghost use Rattle.lts_base.specs.declared.limits.TheConstants.{MOST_LABEL_BYTES, MOST_LINE_BYTES, MOST_STATES};
-ghost use Rattle.std.specs.Prelude.{◌≡◌, ◌≤◌, ◌<◌, true, length, option_map, IsTrue, IsFalse, MatchResult};
+ghost use Rattle.std.specs.Prelude.{◌≡◌, ◌≤◌, ◌<◌, true, length, option_map, IsTrue, IsFalse, MatchResult, OnErr};
 ghost use Rattle.lts_base.specs.Alphabet.{IsLabel};
 ghost use Rattle.text_scan.specs.Lines as lines;
 ghost use Rattle.aut_text.specs.Parts.{named_moves};
@@ -32,7 +32,8 @@ pub(crate) fn add_line(
     states: u64,
 ) -> Result<(), AutError>
     requires { states ≤ MOST_STATES }
-    ensures { MatchResult result (λ _. AddsLine states line.now (named_moves parts.old) (named_moves parts.new)) (λ e. (grammar.is_text line.now ≡ true) × IsLineFault states (length parts.old.moves) line.now number e) }
+    ensures added { MatchResult result (λ _. AddsLine states line.now (named_moves parts.old) (named_moves parts.new)) (λ e. (grammar.is_text line.now ≡ true) × IsLineFault states (length parts.old.moves) line.now number e) }
+    ensures kept { OnErr result (parts.new ≡ parts.old) }
 {
     if add_plain(parts, line, states) {
         return Ok(());
@@ -59,7 +60,8 @@ fn add_plain(parts: &mut RawParts, line: &[u8], states: u64) -> bool
 /// Adds the move of line `number`, whatever its form, unless the line is blank.
 fn add_text(parts: &mut RawParts, line: &[u8], number: u32, states: u64) -> Result<(), AutError>
     requires { states ≤ MOST_STATES }
-    ensures { MatchResult result (λ _. AddsLine states line.now (named_moves parts.old) (named_moves parts.new)) (λ e. (grammar.is_text line.now ≡ true) × IsLineFault states (length parts.old.moves) line.now number e) }
+    ensures added { MatchResult result (λ _. AddsLine states line.now (named_moves parts.old) (named_moves parts.new)) (λ e. (grammar.is_text line.now ≡ true) × IsLineFault states (length parts.old.moves) line.now number e) }
+    ensures kept { OnErr result (parts.new ≡ parts.old) }
 {
     if !is_text(line) {
         return Ok(());

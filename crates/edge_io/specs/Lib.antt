@@ -1,4 +1,5 @@
 pub mod Outside
+pub mod Taps
 pub mod Contents
 pub mod InMemory
 pub mod Links

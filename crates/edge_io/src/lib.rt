@@ -1,4 +1,4 @@
-//! The outside as traits: files that are read, sinks that are written to, and streams, links and
+//! The outside as traits: files that are read, taps of what is read, sinks that are written to, and streams, links and
 //! dialers to implementations under test, with their forms in memory and of the system. No other
 //! crate reaches the system.
 #![tactic(auto)]
@@ -30,6 +30,7 @@ pub mod stream;
 pub mod sure;
 pub mod sure_dialer;
 pub mod sure_link;
+pub mod tap;
 pub mod tcp;
 
 pub use act::{Act, Acts, Heard, MOST_HEARD_BYTES};
@@ -55,4 +56,5 @@ pub use stream::{Got, Stream};
 pub use sure::{SureFiles, SureSink};
 pub use sure_dialer::SureDialer;
 pub use sure_link::SureLink;
+pub use tap::{NoTap, Tap};
 pub use tcp::{TcpDoor, TcpLine, connect_tcp};

@@ -97,6 +97,10 @@ fn add_edge<'b>(
     let Some(to) = found_place(nodes, places, bytes_of(&edge.target)) else {
         return Err(GraphError::UnknownNode(edge.at));
     };
+    // most edges have a label that an edge before them has
+    if parts.push_known(from as u32, label_of(edge), to as u32) {
+        return Ok(());
+    }
     parts.push(from as u32, label_of(edge), to as u32)?;
     Ok(())
 }

@@ -16,7 +16,7 @@ pub fn digest_of(bytes: &[u8]) -> Digest
     ensures value { result.0 ≡ sha256 bytes.now }
     ensures digest { IsDigest result }
 {
-    wrapped(Sha256::digest(bytes))
+    digest_from(Sha256::digest(bytes))
 }
 
 /// That each byte fits: a clause can't say it of an array, and the walk is compiled away.
@@ -28,7 +28,8 @@ fn each_fits(bytes: &[u8; 32])
     }
 }
 
-fn wrapped(bytes: [u8; 32]) -> Digest
+/// The digest that these bytes are.
+pub fn digest_from(bytes: [u8; 32]) -> Digest
     ensures value { result.0 ≡ bytes }
     ensures digest { IsDigest result }
 {
@@ -51,7 +52,7 @@ pub fn digest_named(alloc: Global, text: &[u8]) -> Result<Option<Digest>, AllocE
     let Ok(bytes) = <[u8; 32] as FromHex>::from_hex(text) else {
         return Ok(None);
     };
-    let digest = wrapped(bytes);
+    let digest = digest_from(bytes);
     let digits = digits_of(alloc, &digest)?;
     if !is_text(digits.as_bytes(), text) {
         return Ok(None);

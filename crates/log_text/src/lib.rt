@@ -14,7 +14,7 @@ mod printer;
 mod reader;
 mod stage;
 
-pub use digest::digest_of;
+pub use digest::{digest_from, digest_of};
 pub use error::LogError;
 pub use log::{Digest, Ending, Entries, Entry, Head, Log, Logs, Named};
 pub use printer::{print_as, print_log, print_named};

@@ -15,8 +15,11 @@ pub const MOST_LABEL_BYTES: usize = 1_024;
 /// The most bytes of a line of an Aldebaran file, its line end apart.
 pub const MOST_LINE_BYTES: usize = 4_096;
 
-/// The most bytes of a file, but for certificates.
+/// The most bytes of a file, but for certificates and for Aldebaran files that are read in pieces.
 pub const MOST_FILE_BYTES: u64 = 67_108_864;
+
+/// The most bytes of an Aldebaran file that is read in pieces.
+pub const MOST_AUT_BYTES: u64 = 268_435_456;
 
 /// The most bytes of a certificate's file.
 pub const MOST_CERT_BYTES: u64 = 536_870_912;

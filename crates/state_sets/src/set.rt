@@ -9,16 +9,18 @@ ghost use Rattle.lts_base.specs.Next.{IsNext};
 ghost use Rattle.state_sets.specs.Finds.{IsSorted};
 
 use crate::offers::{allowed_by, shown_by};
-use crate::search::Search;
+use crate::search::{FEW, Search};
 use crate::step::{next_states, opening_states};
 use lts_base::{Item, Lts, Memory, Mode};
+use smallvec::SmallVec;
 use std::alloc::Global;
 use std::marker::Model;
 
-/// A set of states, as the list of them in ascending order.
+/// A set of states, as the list of them in ascending order; one of few states takes no memory of its
+/// own.
 #[derive(Drop, Debug)]
 pub struct StateSet {
-    states: Vec<u32>,
+    states: SmallVec<u32, FEW>,
 }
 
 impl Model for StateSet {
@@ -38,7 +40,7 @@ impl StateSet {
         ensures value { result.now ≡ self.now }
         ensures rising { IsStrictlyIncreasing self.now }
     {
-        &self.states
+        self.states.as_slice()
     }
 }
 
@@ -61,7 +63,9 @@ pub fn opening_with(alloc: Global, lts: &Lts, search: &mut Search) -> Result<Sta
     ensures within { IfOk result (All (λ (q : ℕ). q < lts.now.states)) }
 {
     let states = opening_states(alloc, lts, search)?;
-    Ok(StateSet { states })
+    Ok(StateSet {
+        states: SmallVec::from_vec(states),
+    })
 }
 
 /// The set of states that the item, and then moves with Tau, reach from the members; it may be
@@ -95,7 +99,9 @@ pub fn post_with(
     ensures within { IfOk result (All (λ (q : ℕ). q < lts.now.states)) }
 {
     let states = next_states(alloc, lts, search, set.states(), item)?;
-    Ok(StateSet { states })
+    Ok(StateSet {
+        states: SmallVec::from_vec(states),
+    })
 }
 
 /// The set of the states that a search has found.
@@ -103,7 +109,7 @@ pub fn found_set(alloc: Global, search: &Search) -> Result<StateSet, Memory>
     ensures sorted { IfOk result (IsSorted search.now.found) }
     ensures within { IfOk result (All (λ (q : ℕ). q < search.now.states)) }
 {
-    let states = search.sorted(alloc)?;
+    let states = search.kept(alloc)?;
     Ok(StateSet { states })
 }
 

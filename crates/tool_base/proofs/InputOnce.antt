@@ -50,10 +50,8 @@ file_once {X} kind contents name told x y is tells one other =
 -- a file that is read isn't refused
 pub file_apart : {X : Type 0} (kind : Kind X) (contents : Contents) (name told : List ℕ) (x : X) (r : Refusal) → IsKind kind → contents name ≡ Some told → IsFile kind contents name x → ¬ RefusesFile kind contents name r
 file_apart {X} kind contents name told x (TooLong named) is tells file (at, long) =
-    let same : file.content ≡ long.content = content_once contents name told file.content long.content tells file.has long.has in
-    let short : length long.content ≤ kind.most = subst (λ (c : List ℕ). length c ≤ kind.most) same file.short in
-    let more = long.long in
-    omega (arith, short, more)
+    let same : long.content ≡ file.content = content_once contents name told long.content file.content tells long.has file.has in
+    is.short file.content file.short (subst kind.long same long.long)
 file_apart {X} kind contents name told x (BadFile named error) is tells file (at, bad) =
     let same : bad.content ≡ file.content = content_once contents name told bad.content file.content tells bad.has file.has in
     is.apart file.content x error file.short file.reads (subst (λ (c : List ℕ). kind.faulty c error) same bad.faulty)
@@ -62,21 +60,19 @@ file_apart {X} kind contents name told x (Divergent named cycle) is tells file h
 file_apart {X} kind contents name told x (FileFault named) is tells file h = h
 
 -- a file that is too long isn't refused for a fault
-long_good : {X : Type 0} (kind : Kind X) (contents : Contents) (name told : List ℕ) (error : FileError) → contents name ≡ Some told → IsLong kind.most contents name → ¬ IsBad kind contents name error
-long_good {X} kind contents name told error tells long bad =
+long_good : {X : Type 0} (kind : Kind X) (contents : Contents) (name told : List ℕ) (error : FileError) → IsKind kind → contents name ≡ Some told → IsLong kind.long contents name → ¬ IsBad kind contents name error
+long_good {X} kind contents name told error is tells long bad =
     let same : bad.content ≡ long.content = content_once contents name told bad.content long.content tells bad.has long.has in
-    let short : length long.content ≤ kind.most = subst (λ (c : List ℕ). length c ≤ kind.most) same bad.short in
-    let more = long.long in
-    omega (arith, short, more)
+    is.fine long.content error long.long (subst (λ (c : List ℕ). kind.faulty c error) same bad.faulty)
 
 -- a file is refused for one cause
 pub file_refused_once : {X : Type 0} (kind : Kind X) (contents : Contents) (name told : List ℕ) (r q : Refusal) → IsKind kind → contents name ≡ Some told → RefusesFile kind contents name r → RefusesFile kind contents name q → IsLike r q
 file_refused_once {X} kind contents name told (TooLong one) (TooLong other) is tells h k = ap TooLong (h.0 ∙ sym k.0)
-file_refused_once {X} kind contents name told (TooLong one) (BadFile other error) is tells h k = absurd (long_good kind contents name told error tells h.1 k.1)
-file_refused_once {X} kind contents name told (BadFile one error) (TooLong other) is tells h k = absurd (long_good kind contents name told error tells k.1 h.1)
+file_refused_once {X} kind contents name told (TooLong one) (BadFile other error) is tells h k = absurd (long_good kind contents name told error is tells h.1 k.1)
+file_refused_once {X} kind contents name told (BadFile one error) (TooLong other) is tells h k = absurd (long_good kind contents name told error is tells k.1 h.1)
 file_refused_once {X} kind contents name told (BadFile one error) (BadFile other fault) is tells h k =
     let same : h.1.content ≡ k.1.content = content_once contents name told h.1.content k.1.content tells h.1.has k.1.has in
-    let e : error ≡ fault = is.fault k.1.content error fault k.1.short (subst (λ (c : List ℕ). kind.faulty c error) same h.1.faulty) k.1.faulty in
+    let e : error ≡ fault = is.fault k.1.content error fault (subst (λ (c : List ℕ). kind.faulty c error) same h.1.faulty) k.1.faulty in
     ap (λ n. BadFile n error) (h.0 ∙ sym k.0) ∙ ap (BadFile other) e
 file_refused_once {X} kind contents name told (TooLong one) (BadLabels error) is tells h k = absurd k
 file_refused_once {X} kind contents name told (TooLong one) (Divergent other cycle) is tells h k = absurd k

@@ -12,17 +12,17 @@ use Rattle.edge_io.specs.Outside.{ToldFiles}
 use Rattle.tool_base.specs.declared.refusal.Refusal.{Refusal}
 use Rattle.tool_base.specs.declared.refusal.Stop.{Stop}
 use Rattle.tool_base.specs.Contents.{Contents}
-use Rattle.tool_base.specs.Kinds.{IsFile, IsLong, RefusesFile, system_kind}
+use Rattle.tool_base.specs.Kinds.{IsFile, IsOver, IsLong, RefusesFile, system_kind}
 use Rattle.tool_base.specs.Sources.{Sources, AreRead, RefusesSystems, IsCycleOf, IsDiverging, AreRuled, AreSystems, RefusesSources, read_as}
 use Rattle.tool_base.specs.declared.refusal.Refusal.TheVariants.{TooLong}
 use Rattle.tool_base.specs.Loads.{IsStopBy, IsTooLong}
 use Rattle.tool_base.specs.Given.{IsSettledOf, RefusesSettled}
 
 -- a file that is told to be too long is too long; where nothing is told, some content is
-pub IsLong-told : (most : ℕ) (contents : Contents) (name : List ℕ) → IfSome (contents name) (λ c. most < length c) → IsLong most contents name
+pub IsLong-told : (most : ℕ) (contents : Contents) (name : List ℕ) → IfSome (contents name) (λ c. most < length c) → IsLong (IsOver most) contents name
 IsLong-told most contents name h = go (contents name) refl h
   where
-    go : (o : Option (List ℕ)) → contents name ≡ o → IfSome o (λ c. most < length c) → IsLong most contents name
+    go : (o : Option (List ℕ)) → contents name ≡ o → IfSome o (λ c. most < length c) → IsLong (IsOver most) contents name
     go None is h = let zeros : List ℕ = replicate (most + 1) 0 in let size : length zeros ≡ most + 1 = length-replicate {A = ℕ} (most + 1) 0 in record { content = zeros; has = rw is tt; long = rw size (omega arith) }
     go (Some c) is h = record { content = c; has = rw is refl; long = h }
 

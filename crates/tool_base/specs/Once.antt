@@ -29,8 +29,16 @@ pub record IsOnce {O : Type 0} (page : Page O) : Type 0 where
   pub apart : (r : Refusal) (o : O) (t : List ℕ) → page.refuses r → ¬ page.answers o t
   pub answered : (o p : O) (t u : List ℕ) → page.answers o t → page.answers p u → o ≡ p
 
--- a content of the kind, if it isn't too long, is read as one value, or else it has one first fault
+-- a content of the kind is read as one value, or is too long, or has one first fault
 pub record IsKind {X : Type 0} (kind : Kind X) : Type 0 where
   pub once : (c : List ℕ) (x y : X) → length c ≤ kind.most → kind.reads c x → kind.reads c y → x ≡ y
-  pub fault : (c : List ℕ) (e f : FileError) → length c ≤ kind.most → kind.faulty c e → kind.faulty c f → e ≡ f
+  pub fault : (c : List ℕ) (e f : FileError) → kind.faulty c e → kind.faulty c f → e ≡ f
   pub apart : (c : List ℕ) (x : X) (e : FileError) → length c ≤ kind.most → kind.reads c x → ¬ kind.faulty c e
+  pub short : (c : List ℕ) → length c ≤ kind.most → ¬ kind.long c
+  pub fine : (c : List ℕ) (e : FileError) → kind.long c → ¬ kind.faulty c e
+
+-- a content that isn't too long is read as one value, or else it has one first fault
+pub record IsReading {X : Type 0} (most : ℕ) (reads : List ℕ → X → Type 0) (faulty : List ℕ → FileError → Type 0) : Type 0 where
+  pub once : (c : List ℕ) (x y : X) → length c ≤ most → reads c x → reads c y → x ≡ y
+  pub fault : (c : List ℕ) (e f : FileError) → length c ≤ most → faulty c e → faulty c f → e ≡ f
+  pub apart : (c : List ℕ) (x : X) (e : FileError) → length c ≤ most → reads c x → ¬ faulty c e

@@ -3,6 +3,7 @@
 #![tactic(auto)]
 
 mod cycles;
+mod digest_tap;
 mod error_text;
 mod load;
 mod raw;

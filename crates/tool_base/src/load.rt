@@ -3,19 +3,18 @@ ghost use Rattle.std.specs.Prelude.{◌≡◌, ◌≤◌, ◌∷◌, [], length,
 ghost use Rattle.edge_io.specs.Outside.{KeepsFiles};
 ghost use Rattle.lts_base.specs.declared.limits.TheConstants.{MOST_FILE_BYTES};
 ghost use Rattle.text_scan.specs.Listing.{IsListing, RefusesListing};
-ghost use Rattle.aut_text.specs.Grammar.{IsAutFile};
-ghost use Rattle.aut_text.specs.Faults.{RefusesAut};
 ghost use Rattle.trace_text.specs.Items.{IsItem};
 ghost use Rattle.tool_base.specs.Kinds.{aut_kind, graph_kind, is_graphml as names_graphml, system_kind, list_kind, trace_kind, goal_kind, script_kind, cert_kind, logs_kind, IsWithinSteps};
-ghost use Rattle.tool_base.specs.Loads.{Loads, LoadsDigested, ReadsAs, IsTooLong, HasShortContent, IsStopBy};
+ghost use Rattle.tool_base.specs.Loads.{Loads, LoadsDigested, LoadsTapped, ReadsGraph, IsTooLong, HasShortContent, IsStopBy};
 
+use crate::digest_tap::DigestTap;
 use crate::refusal::{FileError, Refusal, Stop};
-use aut_text::{AutError, AutReader};
+use aut_text::{AutLoad, read_aut};
 use cert_text::{Cert, CertError, read_cert};
-use edge_io::{Files, LoadError, load_all};
+use edge_io::{Files, LoadError, NoTap, Tap, load_all};
 use graphml_text::{GraphError, read_graphml};
 use log_text::{Digest, LogError, Logs, digest_of, read_logs};
-use lts_base::limits::{MOST_CERT_BYTES, MOST_FILE_BYTES};
+use lts_base::limits::{MOST_AUT_BYTES, MOST_CERT_BYTES, MOST_FILE_BYTES};
 use lts_base::{Labels, Listed, Memory, PackedTexts, RawLts, Text, Trace};
 use script_text::{ScriptError, read_script};
 use std::alloc::Global;
@@ -32,8 +31,10 @@ pub(crate) fn load_system<F: Files>(
     ensures loaded { Loads (system_kind name.now) (F.told files.old) (F.told files.new) name.now result }
     ensures keeps { KeepsFiles (F.told files.old) (F.told files.new) }
 {
-    let content = content(alloc, files, name, MOST_FILE_BYTES)?;
-    read_system(alloc, name, content.as_slice())
+    if is_graphml(name) {
+        return load_drawn(alloc, files, name);
+    }
+    load_written(alloc, files, name, &mut NoTap)
 }
 
 /// The system of a file, and the digest of the bytes that it was read from.
@@ -42,25 +43,40 @@ pub(crate) fn load_digested<F: Files>(
     files: &mut F,
     name: &str,
 ) -> Result<(RawLts, Digest), Stop>
-    ensures loaded { LoadsDigested (F.told files.old) (F.told files.new) name.now result }
+    ensures loaded { LoadsDigested (system_kind name.now) (F.told files.old) (F.told files.new) name.now result }
+    ensures keeps { KeepsFiles (F.told files.old) (F.told files.new) }
+{
+    if is_graphml(name) {
+        return digest_drawn(alloc, files, name);
+    }
+    digest_written(alloc, files, name)
+}
+
+fn digest_drawn<F: Files>(
+    alloc: Global,
+    files: &mut F,
+    name: &str,
+) -> Result<(RawLts, Digest), Stop>
+    ensures loaded { LoadsDigested graph_kind (F.told files.old) (F.told files.new) name.now result }
     ensures keeps { KeepsFiles (F.told files.old) (F.told files.new) }
 {
     let content = content(alloc, files, name, MOST_FILE_BYTES)?;
-    let raw = read_system(alloc, name, content.as_slice())?;
+    let raw = read_drawn(alloc, name, content.as_slice())?;
     let digest = digest_of(content.as_slice());
     Ok((raw, digest))
 }
 
-/// The system of a content, which is read by the name of its file.
-fn read_system(alloc: Global, name: &str, content: &[u8]) -> Result<RawLts, Stop>
-    requires { length content.now ≤ MOST_FILE_BYTES }
-    ensures { ReadsAs (system_kind name.now) name.now content.now result }
+fn digest_written<F: Files>(
+    alloc: Global,
+    files: &mut F,
+    name: &str,
+) -> Result<(RawLts, Digest), Stop>
+    ensures loaded { LoadsDigested aut_kind (F.told files.old) (F.told files.new) name.now result }
+    ensures keeps { KeepsFiles (F.told files.old) (F.told files.new) }
 {
-    if is_graphml(name) {
-        read_drawn(alloc, name, content)
-    } else {
-        read_written(alloc, name, content)
-    }
+    let mut tap = DigestTap::new();
+    let raw = load_written(alloc, files, name, &mut tap)?;
+    Ok((raw, tap.digest()))
 }
 
 /// Whether the name is that of a GraphML file.
@@ -70,8 +86,17 @@ fn is_graphml(name: &str) -> bool
     name.as_bytes().ends_with(b".graphml")
 }
 
+fn load_drawn<F: Files>(alloc: Global, files: &mut F, name: &str) -> Result<RawLts, Stop>
+    ensures loaded { Loads graph_kind (F.told files.old) (F.told files.new) name.now result }
+    ensures keeps { KeepsFiles (F.told files.old) (F.told files.new) }
+{
+    let content = content(alloc, files, name, MOST_FILE_BYTES)?;
+    let raw = read_drawn(alloc, name, content.as_slice())?;
+    Ok(raw)
+}
+
 fn read_drawn(alloc: Global, name: &str, content: &[u8]) -> Result<RawLts, Stop>
-    ensures { ReadsAs graph_kind name.now content.now result }
+    ensures { ReadsGraph name.now content.now result }
 {
     match read_graphml(alloc, content) {
         Ok(raw) => Ok(raw),
@@ -80,14 +105,22 @@ fn read_drawn(alloc: Global, name: &str, content: &[u8]) -> Result<RawLts, Stop>
     }
 }
 
-fn read_written(alloc: Global, name: &str, content: &[u8]) -> Result<RawLts, Stop>
-    requires { length content.now ≤ MOST_FILE_BYTES }
-    ensures { ReadsAs aut_kind name.now content.now result }
+/// The system of an Aldebaran file, whose bytes go to the tap as they come.
+fn load_written<F: Files, T: Tap>(
+    alloc: Global,
+    files: &mut F,
+    name: &str,
+    tap: &mut T,
+) -> Result<RawLts, Stop>
+    ensures loaded { LoadsTapped (F.told files.old) (F.told files.new) name.now (T.took tap.old) (T.took tap.new) result }
+    ensures keeps { KeepsFiles (F.told files.old) (F.told files.new) }
 {
-    match read_aut(alloc, content) {
+    match read_aut(alloc, files, name, MOST_AUT_BYTES, tap) {
         Ok(raw) => Ok(raw),
-        Err(AutError::Memory) => Err(Stop::Memory),
-        Err(error) => Err(bad_file(alloc, name, FileError::Aut(error))),
+        Err(AutLoad::Failed) => Err(file_fault(alloc, name)),
+        Err(AutLoad::TooLong) => Err(too_long(alloc, name)),
+        Err(AutLoad::Bad(error)) => Err(bad_file(alloc, name, FileError::Aut(error))),
+        Err(AutLoad::Memory) => Err(Stop::Memory),
     }
 }
 
@@ -217,15 +250,6 @@ fn content<F: Files>(alloc: Global, files: &mut F, name: &str, most: u64) -> Res
         Err(LoadError::TooLong) => Err(too_long(alloc, name)),
         Err(LoadError::Memory) => Err(Stop::Memory),
     }
-}
-
-fn read_aut(alloc: Global, content: &[u8]) -> Result<RawLts, AutError>
-    requires { length content.now ≤ MOST_FILE_BYTES }
-    ensures { MatchResult result (IsAutFile content.now) (RefusesAut content.now) }
-{
-    let mut reader = AutReader::new(alloc)?;
-    reader.feed(content)?;
-    reader.end()
 }
 
 fn listed(alloc: Global, content: &[u8]) -> Result<PackedTexts, LinesError>

@@ -1,5 +1,7 @@
 -- Promise: what the program answers and prints, from its words and the contents of its files.
-use Rattle.std.specs.Prelude.{◌≡◌, ℕ, List, [], ◌∷◌, Option, Some, None, Result, Ok, Err, ◌⊎◌}
+use Rattle.std.specs.Prelude.{◌≡◌, ℕ, List, [], ◌∷◌, map, Option, Some, None, Result, Ok, Err, ◌⊎◌, String, string_bytes}
+use Rattle.edge_io.specs.declared.act.Act.{Act}
+use Rattle.edge_io.specs.Dials.{ToldDialer}
 use Rattle.edge_io.specs.Outside.{ToldFiles, ToldSink, SinkFails, AppendsTo, AppendsFrontTo}
 use Rattle.torx_words.specs.declared.kind.UsageKind.TheVariants.{NoCommand, UnknownCommand}
 use Rattle.tool_base.specs.declared.refusal.Stop.{Stop}
@@ -7,7 +9,7 @@ use Rattle.tool_base.specs.declared.refusal.Stop.TheVariants.{Usage as BadWords,
 use Rattle.tool_base.specs.declared.report.Report.{Report}
 use Rattle.tool_base.specs.Pages.{Command, Answers}
 use Rattle.tool_base.specs.Texts.{usage_text, refusal_text}
-use Rattle.cmd_drive.specs.Dialled.{Dialled}
+use Rattle.cmd_drive.specs.Dialled.{Dialled, dialled}
 use Rattle.torx_tool.specs.declared.commands.Name.{Name}
 use Rattle.torx_tool.specs.declared.status.Status.{Status}
 use Rattle.torx_tool.specs.declared.status.Status.TheVariants.{Usage, OutFault, Memory}
@@ -63,3 +65,11 @@ pub record IsRun (run : Dialled) (words : List (List ℕ)) (old new : ToldFiles)
   pub report : Report Status
   pub reported : IsReportOn run words old new report
   pub written : IsWritten report before after status
+
+-- the bytes of each word
+abbrev pub texts : {A : Type 0} → List (String A) → List (List ℕ)
+texts {A} words = map string_bytes words
+
+-- the same, with a dialer whose links go by this relation, and what it tells before and after
+abbrev pub Runs : {L : Type 0} → (L → Act → L → Type 0) → ToldDialer → ToldDialer → List (List ℕ) → ToldFiles → ToldFiles → ToldSink → ToldSink → Status → Type 0
+Runs gives told later words old new before after status = IsRun (dialled gives told later) words old new before after status

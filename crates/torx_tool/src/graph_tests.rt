@@ -8,7 +8,7 @@ use std::process::Abort;
 use std::test::Fail;
 
 /// The system as an Aldebaran file, with its labels as they stand.
-fn described(alloc: Global, raw: &RawLts) -> Result<Vec<u8>, AllocError> {
+pub fn described(alloc: Global, raw: &RawLts) -> Result<Vec<u8>, AllocError> {
     let start = raw.start();
     let states = raw.states();
     let count = raw.moves().as_slice().len();

@@ -14,6 +14,8 @@ mod log_tests;
 #[cfg(test)]
 mod log_text_tests;
 mod program;
+#[cfg(test)]
+mod reader_tests;
 mod run;
 mod status;
 #[cfg(test)]

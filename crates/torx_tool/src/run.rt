@@ -1,8 +1,7 @@
 //! The top call: from words and files to what is printed.
-ghost use Rattle.std.specs.Prelude.{map, string_bytes};
 ghost use Rattle.edge_io.specs.Outside.{KeepsFiles};
 ghost use Rattle.cmd_drive.specs.Dialled.{dialled};
-ghost use Rattle.torx_tool.specs.Run.{IsRun, IsWritten};
+ghost use Rattle.torx_tool.specs.Run.{IsWritten, Runs, texts};
 ghost use Rattle.torx_tool.specs.Exact.{IsAnswered};
 ghost use Rattle.torx_tool.specs.Headline.{IsHeadline};
 ghost use Rattle.torx_tool.specs.Audit.{IsAudited};
@@ -23,11 +22,11 @@ pub fn run<F: Files, S: Sink, D: Dialer>(
     out: &mut S,
     dialer: &mut D,
 ) -> Status
-    ensures run { IsRun (dialled D.Link.gives (D.told dialer.old) (D.told dialer.new)) (map string_bytes words.now) (F.told files.old) (F.told files.new) (S.told out.old) (S.told out.new) result }
-    ensures answered { IsAnswered (dialled D.Link.gives (D.told dialer.old) (D.told dialer.new)) (F.told files.old).content (map string_bytes words.now) result }
-    ensures headline { IsHeadline (F.told files.old).content (map string_bytes words.now) (S.told out.old) (S.told out.new) result }
-    ensures audited { IsAudited (F.told files.old).content (map string_bytes words.now) result }
-    ensures served { IsServed (map string_bytes words.now) (D.told dialer.old) (D.told dialer.new) result }
+    ensures run { Runs D.Link.gives (D.told dialer.old) (D.told dialer.new) (texts words.now) (F.told files.old) (F.told files.new) (S.told out.old) (S.told out.new) result }
+    ensures answered { IsAnswered (dialled D.Link.gives (D.told dialer.old) (D.told dialer.new)) (F.told files.old).content (texts words.now) result }
+    ensures headline { IsHeadline (F.told files.old).content (texts words.now) (S.told out.old) (S.told out.new) result }
+    ensures audited { IsAudited (F.told files.old).content (texts words.now) result }
+    ensures served { IsServed (texts words.now) (D.told dialer.old) (D.told dialer.new) result }
     ensures keeps { KeepsFiles (F.told files.old) (F.told files.new) }
 {
     let report = answer(alloc, words, files, dialer);

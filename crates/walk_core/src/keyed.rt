@@ -1,7 +1,7 @@
 //! A hash of sets that no file can aim at.
 ghost use Rattle.std.specs.Prelude.{◌≡◌};
 
-use lts_base::{Act, Lts};
+use lts_base::{Act, Lts, Move};
 use std::hash::{BuildHasher, DefaultHasher, FoldHasher, Hasher};
 
 /// Makes hashers that begin with a digest of the whole system. Whoever writes a file fixes the
@@ -26,15 +26,29 @@ impl Keyed {
     pub(crate) fn new(lts: &Lts) -> Keyed {
         let mut digest = DefaultHasher::new();
         digest.write_u32(lts.start());
-        for m in lts.moves() {
-            digest.write_u64(m.from as u64 * 4_294_967_296 + m.to as u64);
-            digest.write_u32(match m.act {
-                Act::Tau => u32::MAX,
-                Act::Label(label) => label,
-            });
+        for state in 0..lts.states() {
+            add_moves(&mut digest, lts.moves_of(state));
         }
         let mut initial = FoldHasher::default();
         initial.write_u64(digest.finish());
         Keyed { initial }
     }
+}
+
+/// Adds the moves of a state. A byte of a digest takes as long as a step of some walks, so there are no
+/// more than tell the moves apart.
+fn add_moves(digest: &mut DefaultHasher, moves: &[Move]) {
+    digest.write_u64(moves.len() as u64);
+    for m in moves {
+        digest.write_u32(word_of(m));
+    }
+}
+
+/// The action and the target as one number: states and labels are below 2^16.
+fn word_of(m: &Move) -> u32 {
+    let act = match m.act {
+        Act::Tau => u32::MAX,
+        Act::Label(label) => label,
+    };
+    act.wrapping_mul(65_536).wrapping_add(m.to)
 }

@@ -1,7 +1,6 @@
-use Rattle.std.proofs.Common.{◌≡◌, ◌∙◌, ap, subst, List, ℕ, Option, IfSome, arith, rules}
-use Rattle.std.specs.Option.{option_map}
+use Rattle.std.proofs.Common.{◌∙◌, ap, subst, List, ℕ, Option, IfSome, rules}
 use Rattle.lts_base.specs.Alphabet.{IsLabel}
-use Rattle.aut_text.specs.Form.{visible, label_in}
+use Rattle.aut_text.specs.Form.{visible}
 use Rattle.aut_text.specs.Parts.{AddsMove}
 use Rattle.aut_text.specs.Plain.{IsPlainText}
 use Rattle.aut_text.proofs.PlainLaws.{plain_adds}

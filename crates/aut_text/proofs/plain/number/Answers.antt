@@ -1,4 +1,4 @@
-use Rattle.aut_text.proofs.PlainLaws.{AreDigits-step, HasNumber-read}
+use Rattle.aut_text.proofs.PlainLaws.{AreDigits-step}
 use Rattle.aut_text.proofs.plain.number.Goals as goal
 
 pub loop-rest-preserved : goal.loop-rest-preserved

@@ -8,4 +8,4 @@ returns-in_default c d is e = c.in_default.not-Ok d.0 (c.from_hex.ensures ∙ rw
 
 pub returns-then-not-is_text : goal.returns-then-not-is_text
 returns-then-not-is_text c d is e =
-    iff_false c.is_text.ensures c.if-not-is_text.true (digits_same c.args.text.now _ c.in-Ok.bytes _ d is e (sym c.in-Ok.is ∙ c.from_hex.ensures) c.wrapped-digest.ensures.value (c.as_bytes.ensures.value ∙ c.in_ok-digits.ensures))
+    iff_false c.is_text.ensures c.if-not-is_text.true (digits_same c.args.text.now _ c.in-Ok.bytes _ d is e (sym c.in-Ok.is ∙ c.from_hex.ensures) c.digest_from-digest.ensures.value (c.as_bytes.ensures.value ∙ c.in_ok-digits.ensures))

@@ -1,7 +1,10 @@
-use Rattle.tool_base.proofs.ReadLaws.{system_loads}
+use Rattle.std.proofs.Common.{◌∙◌, Bool, subst, sym}
+use Rattle.tool_base.specs.Kinds.{kind_of}
+use Rattle.tool_base.specs.Loads.{Loads}
+use Rattle.tool_base.proofs.ReadLaws.{tapped_loads}
 use Rattle.tool_base.proofs.load.load_system.Goals as goal
 
 pub returns-clause-loaded : goal.returns-clause-loaded
 returns-clause-loaded g c =
-    system_loads (g.F.Files.told c.args.files.now) (g.F.Files.told c.content.new.files) c.args.name.now c.in_ok-content.content c.read_system.result
-    c.in_ok-content.ensures.loaded (rw c.as_slice.ensures at c.read_system.ensures)
+    subst (λ (b : Bool). Loads (kind_of b) (g.F.Files.told c.args.files.now) (g.F.Files.told c.load_written.new.files) c.args.name.now c.load_written.result) (sym c.if-is_graphml.false ∙ c.is_graphml.ensures)
+    (tapped_loads _ _ _ _ _ _ c.load_written.ensures.loaded)
