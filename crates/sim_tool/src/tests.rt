@@ -135,7 +135,7 @@ fn words_of(alloc: Global, cell: &str) -> Result<Vec<String>, AllocError> {
 }
 
 /// The files of the table.
-fn contents(alloc: Global) -> Result<Contents, Memory> {
+pub fn contents(alloc: Global) -> Result<Contents, Memory> {
     let mut contents = Listed::new(alloc);
     for case in FILES.lines() {
         if is_case(case) {

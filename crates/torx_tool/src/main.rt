@@ -6,9 +6,13 @@ mod answer;
 mod cert_tests;
 mod commands;
 #[cfg(test)]
+mod drive_tests;
+#[cfg(test)]
 mod graph_limit_tests;
 #[cfg(test)]
 mod graph_tests;
+#[cfg(test)]
+mod line_tests;
 #[cfg(test)]
 mod log_tests;
 #[cfg(test)]
@@ -17,7 +21,11 @@ mod program;
 #[cfg(test)]
 mod reader_tests;
 mod run;
+#[cfg(test)]
+mod session_tests;
 mod status;
+#[cfg(test)]
+mod stream_tests;
 #[cfg(test)]
 mod table;
 #[cfg(test)]
