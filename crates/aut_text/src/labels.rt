@@ -121,23 +121,25 @@ fn slot_of(text: &[u8]) -> usize
     (ends.wrapping_mul(SPREAD) >> 52) as usize % SLOTS
 }
 
-/// The first bytes of a text as a number, or all bytes of a shorter one.
+/// The first bytes of a text as a number, or all bytes of a very short one.
 fn front_of(text: &[u8]) -> u64 {
     match text {
         [a, b, c, d, e, f, g, h, ..] => u64::from_le_bytes([*a, *b, *c, *d, *e, *f, *g, *h]),
+        [a, b, c, d, ..] => u32::from_le_bytes([*a, *b, *c, *d]) as u64,
         _ => number_of_few(text),
     }
 }
 
-/// The last bytes of a text as a number, where it is long.
+/// The last bytes of a text as a number, where it has four or more.
 fn back_of(text: &[u8]) -> u64 {
     match text {
         [.., a, b, c, d, e, f, g, h] => u64::from_le_bytes([*a, *b, *c, *d, *e, *f, *g, *h]),
+        [.., a, b, c, d] => u32::from_le_bytes([*a, *b, *c, *d]) as u64,
         _ => 0,
     }
 }
 
-/// The bytes of a short text as a number.
+/// The bytes of a very short text as a number.
 fn number_of_few(text: &[u8]) -> u64 {
     let mut number: u64 = 0;
     for byte in text {

@@ -1,10 +1,10 @@
 //! Moves in the form in which most files write them, which is read faster than any other.
-ghost use Rattle.std.specs.Prelude.{◌≡◌, ◌<◌, ◌∷◌, IfSome};
+ghost use Rattle.std.specs.Prelude.{◌≡◌, ◌<◌, ◌∷◌, ◌++◌, [], IfSome};
 ghost use Rattle.std.specs.Char.{digit_value};
 ghost use Rattle.aut_text.specs.Plain as plain;
 
 use lts_base::limits::MOST_STATES;
-use text_scan::{MOST_DIGITS, cut_at_last};
+use text_scan::MOST_DIGITS;
 
 /// The decimal at the front, where it is below the states, and the bytes after it; it may be said
 /// wrongly that there is none.
@@ -49,16 +49,50 @@ fn after(bytes: &[u8], mark: u8) -> Option<&[u8]>
     }
 }
 
+/// The bytes before this one, where it is the last.
+fn before(bytes: &[u8], mark: u8) -> Option<&[u8]>
+    ensures { IfSome result (λ front. bytes.now ≡ front.now ++ mark ∷ []) }
+{
+    match bytes {
+        [front @ .., last] if *last == mark => Some(front),
+        _ => None,
+    }
+}
+
+/// The bytes before the digits at the back, and those digits.
+fn cut_digits(bytes: &[u8]) -> (&[u8], &[u8])
+    ensures { bytes.now ≡ result.0.now ++ result.1.now }
+{
+    let mut front = bytes;
+    while let [others @ .., last] = front {
+        if !last.is_ascii_digit() {
+            break;
+        }
+        front = others;
+    }
+    bytes.split_at(front.len())
+}
+
+/// The decimal that these bytes are, where it is below the states; it may be said wrongly that they
+/// are none.
+fn whole_number(bytes: &[u8], states: u64) -> Option<u64>
+    ensures { IfSome result (λ n. plain.HasNumber states bytes.now n []) }
+{
+    let (value, rest) = number(bytes, states)?;
+    if !rest.is_empty() {
+        return None;
+    }
+    Some(value)
+}
+
 /// The ends of the move and the bytes between its first and its last comma; it may be said wrongly
 /// that there are none.
 pub(crate) fn plain_parts(text: &[u8], states: u64) -> Option<(u64, &[u8], u64)>
     ensures { IfSome result (λ m. plain.IsPlainText states text.now m.0 m.1.now m.2) }
 {
     let (from, others) = number(after(text, b'(')?, states)?;
-    let (middle, back) = cut_at_last(after(others, b',')?, b',')?;
-    let (to, end) = number(back, states)?;
-    if end != b")".as_slice() {
-        return None;
-    }
+    let (front, digits) = cut_digits(before(after(others, b',')?, b')')?);
+    let middle = before(front, b',')?;
+    let to = whole_number(digits, states)?;
     Some((from, middle, to))
 }

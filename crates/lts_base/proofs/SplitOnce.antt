@@ -1,8 +1,7 @@
 -- Systems over one alphabet are fixed by the raw systems, and labels that can't be sorted have one first fault.
-use Rattle.std.proofs.Common.{◌≡◌, ◌∙◌, ℕ, ◌<◌, Bool, List, [], ◌∷◌, length, take, map, All, Option, Some, None, IsSome, inl, inr, refl, sym, ap, subst, arith}
+use Rattle.std.proofs.Common.{◌≡◌, ◌∙◌, ℕ, ◌<◌, Bool, List, [], length, take, All, Option, Some, None, IsSome, inl, inr, refl, sym, ap, subst, arith}
 use Rattle.std.proofs.lemmas.Bool.{false≢true, cases_lt}
 use Rattle.std.proofs.lemmas.List.{length-take-le, get_or-take, ext_get_or, get_or_default}
-use Rattle.std.proofs.lemmas.List.Elements.{All-contains}
 use Rattle.lts_base.specs.declared.action.Move.{Move}
 use Rattle.lts_base.specs.declared.divergence.Divergence.{Divergence}
 use Rattle.lts_base.specs.declared.sorting.Rule.{Rule}
@@ -12,7 +11,7 @@ use Rattle.lts_base.specs.declared.limits.TheConstants.{MOST_LABELS}
 use Rattle.lts_base.specs.System.{System, IsSystem}
 use Rattle.lts_base.specs.Alphabet.{Alphabet, IsAlphabet, IsOver, text_at}
 use Rattle.lts_base.specs.Raw.{RawSystem}
-use Rattle.lts_base.specs.Sorting.{side_of, IsGoodLabel, IsLabelFault, IsFirstLabelFault, AreMoreThan, all_labels, RefusesSplit, IsAlphabetOf, IsSystemFor, AreSystemsFor, raw_at, system_at}
+use Rattle.lts_base.specs.Sorting.{side_of, IsGoodLabel, IsLabelFault, IsFirstLabelFault, all_labels, RefusesSplit, IsAlphabetOf, IsSystemFor, AreSystemsFor, raw_at, system_at}
 use Rattle.lts_base.proofs.UniqueLaws.{alphabet_unique, system_moves_unique, none_more}
 use Rattle.lts_base.proofs.PermutedLaws.{sorted_moves_unique}
 

@@ -15,3 +15,4 @@ pub mod Sorting
 pub mod Numbered
 pub mod Packed
 pub mod Descent
+pub mod Chains

@@ -3,6 +3,7 @@
 #![tactic(auto)]
 
 pub mod action;
+mod chains;
 mod cycles;
 mod descent;
 pub mod divergence;

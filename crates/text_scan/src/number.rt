@@ -1,11 +1,15 @@
 //! Decimals.
-ghost use Rattle.std.specs.Prelude.{◌≡◌, ℕ, ◌+◌, ◌*◌, ◌^◌, ◌<◌, ◌≤◌, MatchOption};
+ghost use Rattle.std.specs.Prelude.{◌≡◌, ℕ, ◌+◌, ◌*◌, ◌^◌, ◌<◌, ◌≤◌, length, MatchOption};
 ghost use Rattle.std.specs.Char.{digit_value};
 ghost use Rattle.std.specs.Str.Parse.{AllDigits, digits_value};
 ghost use Rattle.text_scan.specs.Decimal.{HasValue, IsDecimal};
+ghost use Rattle.text_scan.specs.declared.number.TheConstants.{FEW_DIGITS};
 
 /// The most digits of a decimal, leading zeros included.
 pub const MOST_DIGITS: usize = 20;
+
+/// So many digits have a value of 64 bits, whatever they are.
+const FEW_DIGITS: usize = 19;
 
 /// The value of a decimal; leading zeros are allowed.
 pub fn decimal(bytes: &[u8]) -> Option<u64>
@@ -17,7 +21,25 @@ pub fn decimal(bytes: &[u8]) -> Option<u64>
     if bytes.len() > MOST_DIGITS {
         return None;
     }
+    if bytes.len() <= FEW_DIGITS {
+        return value_of_few(bytes);
+    }
     value_of(bytes)
+}
+
+/// The value of digits that are too few to be too much.
+fn value_of_few(digits: &[u8]) -> Option<u64>
+    requires { length digits.now ≤ FEW_DIGITS }
+    ensures { MatchOption result (AllDigits 10 digits.now → ⊥) (HasValue digits.now) }
+{
+    let mut value: u64 = 0;
+    for byte in digits {
+        let Some(digit) = digit_of(*byte) else {
+            return None;
+        };
+        value = value * 10 + digit;
+    }
+    Some(value)
 }
 
 fn value_of(digits: &[u8]) -> Option<u64>

@@ -1,4 +1,4 @@
-use Rattle.std.proofs.Common.{◌≡◌, ◌∙◌, ◌++◌, List, length, take, drop, rules, subst}
+use Rattle.std.proofs.Common.{◌≡◌, ◌++◌, List, length, take, drop, rules, subst}
 use Rattle.std.specs.List.Sorted.{IsPermutation}
 use Rattle.std.proofs.lemmas.List.Sorted.{IsPermutation-trans}
 use Rattle.lts_base.specs.declared.action.Move.{Move}

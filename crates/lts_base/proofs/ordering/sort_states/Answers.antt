@@ -1,4 +1,3 @@
-use Rattle.std.proofs.Common.{◌∙◌}
 use Rattle.std.proofs.lemmas.List.Sorted.{IsPermutation-trans, IsPermutation-put_mid, length_permutation}
 use Rattle.lts_base.proofs.ordering.sort_states.Goals as goal
 

@@ -1,4 +1,4 @@
-use Rattle.std.proofs.Common.{◌≡◌, ◌∙◌, ℕ, List, sym, subst}
+use Rattle.std.proofs.Common.{◌∙◌, sym, subst}
 use Rattle.lts_base.specs.System.{System, AreCycleFlags}
 use Rattle.lts_base.proofs.TauLaws.{IsLaidOut-quieted}
 use Rattle.lts_base.proofs.system.Lts.quieted.Goals as goal
