@@ -1,15 +1,14 @@
 -- Laws on the edges that a walk keeps.
-use Rattle.std.proofs.Common.{ℕ, zero, suc, ◌-◌, nat_lt, get_or, ◌+◌, ◌*◌, ◌<◌, ◌≤◌, ◌≡◌, eqb, Bool, true, false, List, [], ◌∷◌, ◌++◌, length, Option, Some, None, refl, sym, ap, ◌∙◌, inl, inr, ◌⊎◌, arith}
+use Rattle.std.proofs.Common.{ℕ, ◌+◌, ◌*◌, ◌<◌, ◌≤◌, ◌≡◌, eqb, Bool, true, false, List, [], ◌∷◌, ◌++◌, length, Option, Some, None, refl, sym, ap, ◌∙◌, inl, inr, ◌⊎◌, arith}
 use Rattle.std.specs.Option.{option_map}
 use Rattle.std.specs.List.{IsDistinct, list_any}
 use Rattle.std.specs.Map.{lookup, keys_of}
-use Rattle.std.proofs.lemmas.Bool.{cases_Bool, cases_eq, cases_lt, eqb-true, eq-eqb, ne_eqb, ltb-true}
+use Rattle.std.proofs.lemmas.Bool.{cases_Bool, cases_eq, eqb-true, eq-eqb, ne_eqb}
 use Rattle.std.proofs.lemmas.Cmp.{nat_eq_equiv}
-use Rattle.std.proofs.lemmas.Bool.Decides.{nat_tests}
 use Rattle.std.proofs.lemmas.Map.Keys.{IsDistinct-push, IsDistinct-IsPermutation}
 use Rattle.std.proofs.lemmas.List.Sorted.{IsPermutation-append_right, IsPermutation-append_comm}
-use Rattle.std.specs.List.Sorted.{IsPermutation, IsPartitionPoint, IsNonDecreasingBy}
-use Rattle.std.proofs.lemmas.List.{append-nil, append_assoc, map-append, map_push, length-append, length_push, get_or_push, get_or_append_left, get_or_default}
+use Rattle.std.specs.List.Sorted.{IsPermutation}
+use Rattle.std.proofs.lemmas.List.{append-nil, append_assoc, map-append, map_push, length-append, length_push, get_or_append_left}
 use Rattle.lts_base.specs.declared.item.Item.{Item}
 use Rattle.lts_base.specs.declared.item.Item.TheVariants.{Input, Output, Delta}
 use Rattle.lts_base.specs.System.{System, IsSystem, IsItemOf}
@@ -18,7 +17,7 @@ use Rattle.walk_core.specs.declared.edges.TheConstants.{MOST_EDGES}
 use Rattle.walk_core.specs.declared.node.Node.{Node}
 use Rattle.walk_core.specs.Walked.{Walked, set_at, IsWalk, Grows, IsStep}
 use Rattle.walk_core.specs.Edges.{Edge, edge_key, answer_at, AreKept, KeepsEdge, IsAnswer, AreRight}
-use Rattle.walk_core.specs.Listed.{IsAscending, IsAbove, IsInserted}
+use Rattle.walk_core.specs.Listed.{IsInserted}
 use Rattle.walk_core.proofs.WalkLaws.{IsStep-known}
 
 -- ---- different nodes and items have different numbers
@@ -132,23 +131,8 @@ once_run run rest key to none once =
         let right : keys_of ((run ++ (key, to) ∷ []) ++ rest) ≡ keys_of run ++ (key ∷ [] ++ keys_of rest) = rw (map-append (λ (e : Edge). e.0) (run ++ (key, to) ∷ []) rest, map-append (λ (e : Edge). e.0) run ((key, to) ∷ [])) (append_assoc (keys_of run) (key ∷ []) (keys_of rest)) in
         rw (left, right) (IsPermutation-append_right (keys_of run) (keys_of rest ++ key ∷ []) (key ∷ [] ++ keys_of rest) (IsPermutation-append_comm (keys_of rest) (key ∷ [])))
 
--- ---- a look-up in the run
+-- ---- a look-up in two parts
 
--- the number at the place is the one that is looked for
-pub run_found : (run : List Edge) (key place : ℕ) (d : Edge) → ((j : ℕ) → j < place → (get_or run j d).0 < key) → place < length run → (get_or run place d).0 ≡ key → lookup (eqb key) run ≡ Some (get_or run place d).1
-run_found [] key place d before below here = absurd (omega (arith, below))
-run_found (f ∷ run) key zero d before below here = rw (eq-eqb key f.0 (sym here)) refl
-run_found (f ∷ run) key (suc place) d before below here =
-    let less : f.0 < key = before 0 (omega arith) in
-    rw (ne_eqb key f.0 (λ e. omega (arith, less, e))) (run_found run key place d (λ j low. before (suc j) (omega (arith, low))) (omega (arith, below)) here)
-
--- no number of the run is the one that is looked for
-pub run_none : (run : List Edge) (key : ℕ) (d : Edge) → ((j : ℕ) → j < length run → (get_or run j d).0 ≡ key → ⊥) → lookup (eqb key) run ≡ None
-run_none [] key d none = refl
-run_none (f ∷ run) key d none =
-    rw (ne_eqb key f.0 (λ e. none 0 (omega arith) (sym e))) (run_none run key d (λ j low. none (suc j) (omega (arith, low))))
-
--- a look-up in two parts
 pub lookup_left : (p : ℕ → Bool) (run rest : List Edge) (u : Option Node) → lookup p run ≡ Some u → lookup p (run ++ rest) ≡ Some u
 lookup_left p [] rest u e = cc
 lookup_left p (f ∷ run) rest u e = elim (cases_Bool (p f.0)) [
@@ -169,60 +153,6 @@ none_right p (f ∷ run) rest e = elim (cases_Bool (p f.0)) [
   | inl passes ↦ let no : Some f.1 ≡ None = rw passes at e in cc
   | inr fails ↦ none_right p run rest (let e' : lookup p (run ++ rest) ≡ None = rw fails at e in e')
 ]
-
--- the place for the number is past the end, or holds another one
-pub run_past : (run : List Edge) (key place : ℕ) (d : Edge) → IsAscending run → IsPartitionPoint (λ (e : Edge). e.0 < key) (λ (e : Edge). key ≤ e.0) run place → (place < length run → (get_or run place d).0 ≡ key → ⊥) →
-    (j : ℕ) → j < length run → (get_or run j d).0 ≡ key → ⊥
-run_past run key place d rises point other j low here = elim (cases_lt j place) [
-  | inl before ↦ let less = point.0 j d (omega arith) before in omega (arith, less, here)
-  | inr after ↦
-      let inside : place < length run = omega (arith, after, low) in
-      let high : key ≤ (get_or run place d).0 = point.1 place d (omega arith) inside in
-      elim (cases_eq j place) [
-        | inl same ↦ other inside (rw same at here)
-        | inr apart ↦
-            let up : (get_or run place d).0 < (get_or run j d).0 = rises place j d (omega (arith, after, apart)) low in
-            omega (arith, up, high, here)
-      ]
-]
-
-pub before_point : (run : List Edge) (key place : ℕ) (d : Edge) → IsPartitionPoint (λ (e : Edge). e.0 < key) (λ (e : Edge). key ≤ e.0) run place → (j : ℕ) → j < place → (get_or run j d).0 < key
-before_point run key place d point j low = point.0 j d (omega arith) low
-
-pub point_above : (run : List Edge) (key : ℕ) → IsAbove run key → IsPartitionPoint (λ (e : Edge). e.0 < key) (λ (e : Edge). key ≤ e.0) run (length run)
-point_above run key above = (λ j d low high. above j d high, λ j d low high. absurd (omega (arith, low, high)))
-
-pub point_from_keys : (run : List Edge) (n i : ℕ) → IsPartitionPoint (λ (e : Edge). nat_lt e.0 n ≡ true) (λ (e : Edge). nat_lt e.0 n ≡ false) run i →
-    IsPartitionPoint (λ (e : Edge). e.0 < n) (λ (e : Edge). n ≤ e.0) run i
-point_from_keys run n i h = (λ k d low high. ltb-true (get_or run k d).0 n (h.0 k d low high), λ k d low high. let no = h.1 k d low high in grind (arith, nat_tests))
-
-pub not_falling : (run : List Edge) → IsAscending run → IsNonDecreasingBy (λ (e : Edge). e.0) run
-not_falling run rises i j d low below = elim (cases_eq i j) [
-  | inl same ↦ rw same (omega arith)
-  | inr apart ↦ let up : (get_or run i d).0 < (get_or run j d).0 = rises i j d (omega (arith, low, apart)) below in omega (arith, up)
-]
-
-pub IsAbove-last : (run : List Edge) (key : ℕ) → IsAscending run → 0 < length run → (get_or run (length run - 1) (0, None)).0 < key → IsAbove run key
-IsAbove-last run key rises some less j d below =
-    let top : length run - 1 < length run = omega (arith, some) in
-    let end : get_or run (length run - 1) d ≡ get_or run (length run - 1) (0, None) = get_or_default run (length run - 1) d (0, None) top in
-    elim (cases_eq j (length run - 1)) [
-      | inl same ↦ rw (same, end) less
-      | inr apart ↦
-          let up : (get_or run j d).0 < (get_or run (length run - 1) d).0 = rises j (length run - 1) d (omega (arith, below, apart)) top in
-          let up' : (get_or run j d).0 < (get_or run (length run - 1) (0, None)).0 = rw end at up in
-          omega (arith, up', less)
-    ]
-
-pub IsAscending-push : (run : List Edge) (key : ℕ) (to : Option Node) → IsAscending run → IsAbove run key → IsAscending (run ++ (key, to) ∷ [])
-IsAscending-push run key to rises above j k d less below =
-    let longer : length (run ++ (key, to) ∷ []) ≡ length run + 1 = length_push run (key, to) in
-    elim (cases_lt k (length run)) [
-      | inl inside ↦ rw (get_or_append_left run ((key, to) ∷ []) d j (omega (arith, less, inside)), get_or_append_left run ((key, to) ∷ []) d k inside) (rises j k d less inside)
-      | inr last ↦
-          let here : length run ≡ k = omega (arith, last, below, longer) in
-          rw (get_or_append_left run ((key, to) ∷ []) d j (omega (arith, less, here)), get_or_push run (key, to) d k here) (above j d (omega (arith, less, here)))
-    ]
 
 -- ---- edges stay right
 

@@ -1,3 +1,4 @@
 pub mod WalkLaws
 pub mod EdgeLaws
 pub mod MarkLaws
+pub mod PackedLaws

@@ -3,6 +3,7 @@ pub mod Refused
 pub mod Taken
 pub mod Interned
 pub mod Edges
+pub mod Packing
 pub mod Listed
 pub mod Mapped
 pub mod Marked

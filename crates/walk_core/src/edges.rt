@@ -1,12 +1,14 @@
 //! The edges of a walk: what each step that was made answered.
-ghost use Rattle.std.specs.Prelude.{◌≡◌, ◌+◌, ◌<◌, ◌≤◌, ◌↔◌, eqb, [], length, None, IsTrue, OnOk};
+ghost use Rattle.std.specs.Prelude.{◌≡◌, ℕ, ◌+◌, ◌/◌, ◌<◌, ◌≤◌, ◌↔◌, eqb, [], length, None, IsTrue, IfSome, OnOk};
 ghost use Rattle.std.specs.List.{IsDistinct};
 ghost use Rattle.std.specs.List.Sorted.{IsPartitionPoint};
 ghost use Rattle.std.specs.Map.{lookup, keys_of};
-ghost use Rattle.walk_core.specs.Edges.{Edge, answer_at, edge_key};
+ghost use Rattle.walk_core.specs.Edges.{answer_at, edge_key};
 ghost use Rattle.walk_core.specs.Listed.{IsAscending, IsAbove, IsInserted};
+ghost use Rattle.walk_core.specs.Packing.{key_from, edge_of, edges_of};
 
 use crate::node::Node;
+use crate::packed::{ANSWERS, answer_in, head_in, head_of, pack, place_of_item};
 use indexmap::IndexMap;
 use lts_base::{Item, Memory};
 use std::alloc::Global;
@@ -19,8 +21,9 @@ pub const MOST_EDGES: usize = 16_777_216;
 /// not from a file.
 #[derive(Drop)]
 pub(crate) struct Edges {
-    // those that came in ascending order, as a search by breadth makes them: 16 bytes each
-    run: Vec<(u64, Option<Node>)>,
+    // those that came in ascending order, as a search by breadth makes them, and can be packed: 8
+    // bytes each
+    run: Vec<u64>,
     // the others
     rest: IndexMap<u64, Option<Node>>,
 }
@@ -29,10 +32,11 @@ impl Model for Edges {
     ghost use Rattle.std.specs.Prelude.{◌-◌, ◌++◌, length};
     ghost use Rattle.indexmap.specs.IndexMap.{spare};
     ghost use Rattle.walk_core.specs.Listed.{Listed, IsAscending};
+    ghost use Rattle.walk_core.specs.Packing.{edges_of};
 
     ghost Value = { Listed };
 
-    ghost view = { λ a. record { edges = a.run.items ++ a.rest.entries; run_room = a.run.cap - length a.run.items; rest_room = spare a.rest } };
+    ghost view = { λ a. record { edges = edges_of a.run.items ++ a.rest.entries; run_room = a.run.cap - length a.run.items; rest_room = spare a.rest } };
 
     ghost invariant = { λ a. IsAscending a.run.items };
 }
@@ -40,52 +44,72 @@ impl Model for Edges {
 fn key_of(node: Node, item: Item) -> u64
     ensures { result ≡ edge_key node.0 item }
 {
-    let place = match item {
-        Item::Input(label) => label,
-        Item::Output(label) => label,
-        Item::Delta => u32::MAX,
-    };
-    node.0 as u64 * 4_294_967_296 + place as u64
+    node.0 as u64 * 4_294_967_296 + place_of_item(item) as u64
 }
 
-/// Whether the number is above all of the run.
-fn is_above(run: &[(u64, Option<Node>)], key: u64) -> bool
+/// Whether the upper part is above all of the run.
+fn is_above(run: &[u64], head: u64) -> bool
     requires { IsAscending run.now }
-    ensures { IsTrue result → IsAbove run.now key }
+    ensures { IsTrue result → IsAbove run.now head }
 {
     let count = run.len();
     if count == 0 {
         return true;
     }
-    run[count - 1].0 < key
+    head_in(run[count - 1]) < head
 }
 
-/// The place of the first edge with this number or a later one.
-fn place_of(run: &[(u64, Option<Node>)], key: u64) -> usize
+/// The place of the first edge with this upper part or a later one.
+fn place_of(run: &[u64], head: u64) -> usize
     requires { IsAscending run.now }
     ensures within { result ≤ length run.now }
-    ensures point { IsPartitionPoint (λ (e : Edge). e.0 < key) (λ (e : Edge). key ≤ e.0) run.now result }
+    ensures point { IsPartitionPoint (λ (e : ℕ). e / 16777216 < head) (λ (e : ℕ). head ≤ e / 16777216) run.now result }
 {
-    if is_above(run, key) {
+    if is_above(run, head) {
         return run.len();
     }
-    run.partition_point(|e| e.0 < key)
+    run.partition_point(|packed| *packed / ANSWERS < head)
 }
 
-/// The answer of the edge of the run with this number, if there is one.
-fn in_run(run: &[(u64, Option<Node>)], key: u64) -> Option<Option<Node>>
+/// The answer of the edge of the run with this upper part, if there is one.
+fn with_head(run: &[u64], head: u64) -> Option<Option<Node>>
     requires { IsAscending run.now }
-    ensures { result ≡ lookup (eqb key) run.now }
+    ensures { result ≡ lookup (eqb (key_from head)) (edges_of run.now) }
 {
-    let place = place_of(run, key);
+    let place = place_of(run, head);
     if place >= run.len() {
         return None;
     }
-    let edge = run[place];
-    if edge.0 == key {
-        return Some(edge.1);
+    let packed = run[place];
+    if head_in(packed) == head {
+        return Some(answer_in(packed));
     }
     None
+}
+
+/// The answer of the edge of the run with this node and item, if there is one.
+fn in_run(run: &[u64], node: Node, item: Item) -> Option<Option<Node>>
+    requires { IsAscending run.now }
+    ensures { result ≡ lookup (eqb (edge_key node.0 item)) (edges_of run.now) }
+{
+    match head_of(node, item) {
+        Some(head) => with_head(run, head),
+        None => None,
+    }
+}
+
+/// The edge as one number, where it can go to the end of the run.
+fn next_packed(run: &[u64], node: Node, item: Item, to: Option<Node>) -> Option<u64>
+    requires { IsAscending run.now }
+    ensures above { IfSome result (λ packed. IsAbove run.now (packed / 16777216)) }
+    ensures edge { IfSome result (λ packed. edge_of packed ≡ (edge_key node.0 item, to)) }
+{
+    let head = head_of(node, item)?;
+    if !is_above(run, head) {
+        return None;
+    }
+    let packed = pack(head, to)?;
+    Some(packed)
 }
 
 /// The answer of the edge of the rest with this number, if there is one.
@@ -121,11 +145,10 @@ impl Edges {
     pub(crate) fn get(&self, node: Node, item: Item) -> Option<Option<Node>>
         ensures { result ≡ answer_at self.now.edges node.0 item }
     {
-        let key = key_of(node, item);
-        if let Some(to) = in_run(&self.run, key) {
+        if let Some(to) = in_run(&self.run, node, item) {
             return Some(to);
         }
-        in_rest(&self.rest, key)
+        in_rest(&self.rest, key_of(node, item))
     }
 
     /// Makes room for one more edge.
@@ -147,14 +170,13 @@ impl Edges {
         ensures edges { IsInserted self.old.edges self.new.edges (edge_key node.0 item) to }
         ensures once { IsDistinct eqb (keys_of self.old.edges) → IsDistinct eqb (keys_of self.new.edges) }
     {
-        let key = key_of(node, item);
-        if is_above(&self.run, key) {
-            match self.run.push((key, to)) {
+        if let Some(packed) = next_packed(&self.run, node, item, to) {
+            match self.run.push(packed) {
                 Ok(_) => return,
                 Err(_) => unreachable!(),
             }
         }
-        match self.rest.insert(key, to) {
+        match self.rest.insert(key_of(node, item), to) {
             Ok(_) => (),
             Err(_) => unreachable!(),
         }

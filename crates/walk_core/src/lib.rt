@@ -9,6 +9,7 @@ mod keyed;
 pub mod lazy;
 mod marks;
 pub mod node;
+mod packed;
 pub mod plain;
 pub mod steps;
 pub mod walk;
