@@ -1,7 +1,7 @@
 //! The labels of the moves read so far, each found by its text.
-ghost use Rattle.std.specs.Prelude.{◌≡◌, ◌^◌, ◌<◌, [], ◌∷◌, ◌++◌, length, IfOk, IfSome, IsTrue, OnErr};
+ghost use Rattle.std.specs.Prelude.{◌≡◌, ◌^◌, ◌<◌, [], ◌∷◌, ◌++◌, length, IfOk, IfSome, IfNone, IsTrue, OnOk, OnErr};
 ghost use Rattle.lts_base.specs.Alphabet.{IsLabel};
-ghost use Rattle.aut_text.specs.Parts.{AreTexts, IsAt, IsNumber, Lacks};
+ghost use Rattle.aut_text.specs.Parts.{AreTexts, IsAt, Lacks};
 
 use indexmap::IndexSet;
 use lts_base::{Memory, Text, Texts};
@@ -50,6 +50,7 @@ impl LabelTable {
     pub fn known(&mut self, text: &[u8]) -> Option<u32>
         requires few { length self.old < 2 ^ 32 }
         ensures found { IfSome result (IsAt self.old text.now) }
+        ensures none { IfNone result (Lacks self.old text.now) }
         ensures same { self.new ≡ self.old }
     {
         let slot = slot_of(text);
@@ -74,31 +75,25 @@ impl LabelTable {
         }
     }
 
-    /// The place of the text, which is put at the end where it isn't in the table yet.
-    pub fn number_of(&mut self, text: &[u8]) -> Result<u32, Memory>
-        requires few { length self.old < 2 ^ 32 }
-        requires label { IsLabel text.now }
-        ensures ok { IfOk result (IsNumber self.old self.new text.now) }
-        ensures err { OnErr result (self.new ≡ self.old) }
-        ensures texts { AreTexts self.new }
+    /// How many texts there are.
+    pub fn count(&self) -> usize
+        ensures { result ≡ length self.now }
     {
-        if let Some(place) = self.texts.get_index_of(text) {
-            return Ok(place as u32);
-        }
-        self.add(text)
+        self.texts.len()
     }
 
-    fn add(&mut self, text: &[u8]) -> Result<u32, Memory>
+    /// Puts a text at the end that isn't in the table.
+    pub fn add(&mut self, text: &[u8]) -> Result<(), Memory>
         requires few { length self.old < 2 ^ 32 }
         requires label { IsLabel text.now }
         requires new { Lacks self.old text.now }
-        ensures ok { IfOk result (IsNumber self.old self.new text.now) }
+        ensures ok { OnOk result (self.new ≡ self.old ++ text.now ∷ []) }
         ensures err { OnErr result (self.new ≡ self.old) }
         ensures texts { AreTexts self.new }
     {
         let key = Vec::from_slice(self.alloc, text)?;
-        let (place, _) = self.texts.insert_full(key)?;
-        Ok(place as u32)
+        self.texts.insert_full(key)?;
+        Ok(())
     }
 
     /// The texts as a list.

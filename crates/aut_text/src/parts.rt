@@ -1,7 +1,7 @@
 //! Moves and the labels that they carry, as they are read.
 ghost use Rattle.std.specs.Prelude.{◌≡◌, ◌^◌, ◌-◌, ◌<◌, [], length, Some, None, option_map, IfSome, IfOk, IsTrue, IsFalse, OnOk, OnErr};
-ghost use Rattle.lts_base.specs.Alphabet.{IsLabel};
-ghost use Rattle.aut_text.specs.Parts.{IsParts, AddsMove};
+ghost use Rattle.lts_base.specs.Alphabet.{IsLabel, text_at};
+ghost use Rattle.aut_text.specs.Parts.{IsParts, AddsMove, Lacks};
 
 use crate::labels::LabelTable;
 use lts_base::{Memory, RawMove, RawMoves, Texts};
@@ -12,7 +12,7 @@ use std::marker::Model;
 #[derive(Drop)]
 pub struct RawParts {
     labels: LabelTable,
-    moves: Vec<RawMove>,
+    moves: RawMoves,
 }
 
 impl Model for RawParts {
@@ -20,9 +20,9 @@ impl Model for RawParts {
 
     ghost Value = { Parts };
 
-    ghost view = { λ a. record { moves = a.moves.items; labels = a.labels } };
+    ghost view = { λ a. record { moves = a.moves; labels = a.labels } };
 
-    ghost invariant = { λ a. IsParts (record { moves = a.moves.items; labels = a.labels }) };
+    ghost invariant = { λ a. IsParts (record { moves = a.moves; labels = a.labels }) };
 }
 
 impl RawParts {
@@ -32,7 +32,7 @@ impl RawParts {
     {
         RawParts {
             labels: LabelTable::new(alloc),
-            moves: Vec::new(alloc),
+            moves: RawMoves::new(alloc),
         }
     }
 
@@ -40,7 +40,7 @@ impl RawParts {
     pub fn count(&self) -> usize
         ensures { result ≡ length self.now.moves }
     {
-        self.moves.len()
+        self.moves.count()
     }
 
     /// Appends a move; a move without a label is one of Tau.
@@ -82,18 +82,27 @@ impl RawParts {
         ensures known { IsTrue result → IsLabel text.now }
         ensures not { IsFalse result → self.new ≡ self.old }
     {
-        if self.moves.reserve(1).is_err() {
-            return false;
-        }
         let Some(label) = self.labels.known(text) else {
             return false;
         };
-        self.moves.push_reserved(RawMove {
+        match self.push_numbered(from, label, to) {
+            Ok(()) => true,
+            Err(Memory) => false,
+        }
+    }
+
+    fn push_numbered(&mut self, from: u32, label: u32, to: u32) -> Result<(), Memory>
+        requires few { length self.old.moves < 2 ^ 32 - 1 }
+        requires known { label < length self.old.labels }
+        ensures ok { OnOk result (AddsMove self.old self.new (record { from = from; label = Some (text_at self.old.labels label); to = to })) }
+        ensures err { OnErr result (self.new ≡ self.old) }
+    {
+        self.moves.push(RawMove {
             from,
             label: Some(label),
             to,
-        });
-        true
+        })?;
+        Ok(())
     }
 
     fn push_tau(&mut self, from: u32, to: u32) -> Result<(), Memory>
@@ -101,12 +110,11 @@ impl RawParts {
         ensures ok { OnOk result (AddsMove self.old self.new (record { from = from; label = None; to = to })) }
         ensures err { OnErr result (self.new ≡ self.old) }
     {
-        self.moves.reserve(1)?;
-        self.moves.push_reserved(RawMove {
+        self.moves.push(RawMove {
             from,
             label: None,
             to,
-        });
+        })?;
         Ok(())
     }
 
@@ -116,14 +124,33 @@ impl RawParts {
         ensures ok { OnOk result (AddsMove self.old self.new (record { from = from; label = Some text.now; to = to })) }
         ensures err { OnErr result (self.new ≡ self.old) }
     {
-        self.moves.reserve(1)?;
-        let label = self.labels.number_of(text)?;
-        self.moves.push_reserved(RawMove {
+        match self.labels.known(text) {
+            Some(label) => self.push_numbered(from, label, to),
+            None => self.push_new(from, text, to),
+        }
+    }
+
+    /// Appends a move with a label that is new. The move comes first, since it is easily taken off
+    /// again.
+    fn push_new(&mut self, from: u32, text: &[u8], to: u32) -> Result<(), Memory>
+        requires few { length self.old.moves < 2 ^ 32 - 1 }
+        requires label { IsLabel text.now }
+        requires new { Lacks self.old.labels text.now }
+        ensures ok { OnOk result (AddsMove self.old self.new (record { from = from; label = Some text.now; to = to })) }
+        ensures err { OnErr result (self.new ≡ self.old) }
+    {
+        self.moves.push(RawMove {
             from,
-            label: Some(label),
+            label: Some(self.labels.count() as u32),
             to,
-        });
-        Ok(())
+        })?;
+        match self.labels.add(text) {
+            Ok(()) => Ok(()),
+            Err(Memory) => {
+                self.moves.pop();
+                Err(Memory)
+            }
+        }
     }
 
     /// The labels and the moves.
@@ -132,6 +159,6 @@ impl RawParts {
         ensures parts { IsParts self }
     {
         let texts = self.labels.into_texts()?;
-        Ok((texts, RawMoves::from_vec(self.moves)))
+        Ok((texts, self.moves))
     }
 }

@@ -4,7 +4,7 @@ ghost use Rattle.std.specs.Char.{digit_value};
 ghost use Rattle.aut_text.specs.Plain as plain;
 
 use lts_base::limits::MOST_STATES;
-use text_scan::MOST_DIGITS;
+use text_scan::{MOST_DIGITS, decimal};
 
 /// The decimal at the front, where it is below the states, and the bytes after it; it may be said
 /// wrongly that there is none.
@@ -78,8 +78,8 @@ fn cut_digits(bytes: &[u8]) -> (&[u8], &[u8])
 fn whole_number(bytes: &[u8], states: u64) -> Option<u64>
     ensures { IfSome result (λ n. plain.HasNumber states bytes.now n []) }
 {
-    let (value, rest) = number(bytes, states)?;
-    if !rest.is_empty() {
+    let value = decimal(bytes)?;
+    if value >= states {
         return None;
     }
     Some(value)

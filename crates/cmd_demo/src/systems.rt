@@ -46,7 +46,6 @@ fn over_alphabet(alloc: Global, raws: &[RawLts]) -> Result<SplitSystems, Memory>
 }
 
 /// The specification, its labels not yet sorted.
-#[tactic(auto, using(crate::proofs::SystemLaws::spec_fit))]
 fn spec_system(alloc: Global, size: Size) -> Result<RawLts, Memory>
     ensures { IfOk result (λ r. r ≡ demo_spec size.number) }
 {
@@ -56,7 +55,6 @@ fn spec_system(alloc: Global, size: Size) -> Result<RawLts, Memory>
 }
 
 /// The implementation, its labels not yet sorted.
-#[tactic(auto, using(crate::proofs::SystemLaws::imp_fit))]
 fn imp_system(alloc: Global, size: Size) -> Result<RawLts, Memory>
     ensures { IfOk result (λ r. r ≡ demo_imp size.number) }
 {
@@ -98,7 +96,7 @@ fn label(alloc: Global, text: &[u8]) -> Result<Text, Memory>
 fn spec_moves(alloc: Global, size: Size) -> Result<RawMoves, Memory>
     ensures { IfOk result (λ moves. moves ≡ moves_below (spec_moves_at size.number) size.number) }
 {
-    let mut moves = Listed::new(alloc);
+    let mut moves = RawMoves::new(alloc);
     'places: for place in 0..size.number {
         let next = (place + 1) % size.number;
         moves.push(ask_move(place))?;
@@ -112,7 +110,7 @@ fn spec_moves(alloc: Global, size: Size) -> Result<RawMoves, Memory>
 fn imp_moves(alloc: Global, size: Size) -> Result<RawMoves, Memory>
     ensures { IfOk result (λ moves. moves ≡ moves_below (imp_moves_at size.number) size.number) }
 {
-    let mut moves = Listed::new(alloc);
+    let mut moves = RawMoves::new(alloc);
     'places: for place in 0..size.number {
         let next = (place + 1) % size.number;
         moves.push(ask_move(place))?;

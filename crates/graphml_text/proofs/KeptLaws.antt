@@ -171,7 +171,7 @@ visible_label t is = go (bytes_eq t (codes "i")) (bytes_eq t (codes "tau"))
     go false true = tt
     go false false = is
 
-edge_labelled : (at : ℕ) (d : Draft) (o : Option (List ℕ)) (edge : NamedEdge) → label_of d ≡ o → edge_from at d o ≡ Ok edge → IsLabelled edge
+pub edge_labelled : (at : ℕ) (d : Draft) (o : Option (List ℕ)) (edge : NamedEdge) → label_of d ≡ o → edge_from at d o ≡ Ok edge → IsLabelled edge
 edge_labelled at d None edge is e = absurd cc
 edge_labelled at d (Some text) edge is e = go (list_any (λ b. nat_lt b 32) t) refl (is_utf8 t) refl (nat_lt MOST_LABEL_BYTES (length text)) refl e
   where

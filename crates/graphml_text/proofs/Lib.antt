@@ -12,3 +12,4 @@ pub mod DrawingSteps
 pub mod DrawingLaws
 pub mod PlaceLaws
 pub mod StateLaws
+pub mod JoinLaws

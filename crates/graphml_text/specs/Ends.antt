@@ -1,15 +1,16 @@
 -- Private: what is made of the edges at the end.
-use Rattle.std.specs.Prelude.{◌≡◌, ℕ, true, false, List, length, map, All, Some, None, ◌⊎◌, Vec}
+use Rattle.std.specs.Prelude.{◌≡◌, ℕ, true, false, List, length, map, All, Option, Some, None, IfSome, ◌⊎◌, Vec}
 use Rattle.std.specs.Global.{Global}
 use Rattle.std.specs.List.{find}
+use Rattle.lts_base.specs.Alphabet.{text_at}
 use Rattle.lts_base.specs.Raw.{RawSystem}
 use Rattle.aut_text.specs.Parts.{Parts, named_moves, AddsMove}
 use Rattle.aut_text.specs.Reading.{IsWithin}
 use Rattle.graphml_text.specs.declared.error.GraphError.{GraphError}
 use Rattle.graphml_text.specs.declared.error.GraphError.TheVariants.{UnknownNode, Memory}
-use Rattle.graphml_text.specs.declared.machine.NamedEdge.{NamedEdge as HeldEdge}
+use Rattle.graphml_text.specs.declared.edge.NamedEdge.{NamedEdge as HeldEdge}
 use Rattle.graphml_text.specs.MachineValues.{edge_of, ids_of}
-use Rattle.graphml_text.specs.declared.ends.Near.{Near}
+use Rattle.graphml_text.specs.declared.moves.Ends.{Ends}
 use Rattle.graphml_text.specs.Reading.{NamedEdge}
 use Rattle.graphml_text.specs.Document.{is_loose, move_of, place_of}
 
@@ -40,6 +41,11 @@ IsEdgesFault nodes edges f = (f ≡ Memory) ⊎ ((e : NamedEdge) × (find (is_lo
 abbrev pub system_of : ℕ → ℕ → Parts → RawSystem
 system_of states start p = record { states = states; start = start; labels = p.labels; moves = p.moves }
 
--- the place is that of the id among the nodes
-abbrev pub IsNear : List (List ℕ) → Near → Type 0
-IsNear nodes near = near.place ≡ place_of nodes near.id.now
+-- the ends of the edge are the nodes at these places
+pub record HasEnds (nodes : List (List ℕ)) (e : NamedEdge) (ends : Ends) : Type 0 where
+  pub source : place_of nodes e.source ≡ Some ends.from
+  pub target : place_of nodes e.target ≡ Some ends.to
+
+-- the place is that of the id that stands there
+abbrev pub IsNear : List (List ℕ) → Option ℕ → Type 0
+IsNear nodes near = IfSome near (λ place. place_of nodes (text_at nodes place) ≡ Some place)

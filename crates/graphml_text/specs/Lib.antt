@@ -7,3 +7,5 @@ pub mod Going
 pub mod Ends
 pub mod Drawing
 pub mod Places
+pub mod Graph
+pub mod Joined

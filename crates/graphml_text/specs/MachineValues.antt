@@ -7,7 +7,7 @@ use Rattle.graphml_text.specs.declared.error.GraphError.TheVariants.{Memory}
 use Rattle.graphml_text.specs.declared.machine.Machine.{Machine}
 use Rattle.graphml_text.specs.declared.machine.Open.{Open as LentOpen}
 use Rattle.graphml_text.specs.declared.machine.Draft.{Draft as HeldDraft}
-use Rattle.graphml_text.specs.declared.machine.NamedEdge.{NamedEdge as HeldEdge}
+use Rattle.graphml_text.specs.declared.edge.NamedEdge.{NamedEdge as HeldEdge}
 use Rattle.graphml_scan.specs.Values.{text_of}
 use Rattle.graphml_text.specs.Reading.{Open, Draft, NamedEdge, Reading}
 use Rattle.graphml_text.specs.Element.{left, with_text}
@@ -34,10 +34,10 @@ reading_of m = record {
   undirected = m.undirected;
   label_keys = ids_of m.label_keys.keys;
   start_keys = ids_of m.start_keys.keys;
-  nodes = ids_of m.nodes.keys;
+  nodes = m.graph.ids;
   marked = m.marked;
   draft = option_map draft_of m.draft;
-  edges = map edge_of m.edges.items;
+  edges = m.graph.edges;
 }
 
 -- a refusal is for the fault that is met, or for want of memory

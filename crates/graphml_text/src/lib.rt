@@ -1,12 +1,16 @@
 //! GraphML files: their reader.
 #![tactic(auto)]
 
+mod edge;
 mod element;
 mod ends;
 mod error;
 mod front;
+mod graph;
+mod ids;
 pub mod limits;
 mod machine;
+mod moves;
 mod places;
 mod reader;
 mod role;

@@ -1,21 +1,20 @@
 //! What is known of a document after the tokens that were read.
-ghost use Rattle.std.specs.Prelude.{◌≡◌, ◌<◌, ◌≤◌, [], length, map, option_map, Ok};
+ghost use Rattle.std.specs.Prelude.{◌≡◌, option_map};
 ghost use Rattle.graphml_text.specs.Element as spec;
 ghost use Rattle.graphml_text.specs.Reading.{nothing_read};
 ghost use Rattle.graphml_scan.specs.TagValues.{tag_of};
-ghost use Rattle.graphml_text.specs.MachineValues.{ids_of, reading_of};
+ghost use Rattle.graphml_text.specs.MachineValues.{reading_of};
 
 use crate::element::{is_named, value};
 use crate::error::GraphError;
+use crate::graph::Graph;
+use crate::ids::has_id;
 use crate::limits::MOST_DEPTH;
 use crate::role::Role;
-use graphml_scan::{Keyed, Tag, Value, is_same};
+use graphml_scan::{Keyed, Tag, Value};
 use indexmap::IndexSet;
-use lts_base::limits::{MOST_MOVES, MOST_STATES};
+use lts_base::limits::MOST_STATES;
 use std::alloc::Global;
-
-/// So many ids are compared one by one, which is faster than a hash.
-const FEW_IDS: usize = 4;
 
 /// An element that is open.
 #[derive(Drop)]
@@ -35,15 +34,6 @@ pub(crate) struct Draft<'a> {
     pub(crate) told: Value<'a>,
 }
 
-/// An edge that ended.
-#[derive(Drop)]
-pub(crate) struct NamedEdge<'a> {
-    pub(crate) at: u64,
-    pub(crate) source: Value<'a>,
-    pub(crate) target: Value<'a>,
-    pub(crate) label: Option<Value<'a>>,
-}
-
 /// What was read of a document.
 #[derive(Drop)]
 pub(crate) struct Machine<'a> {
@@ -54,10 +44,9 @@ pub(crate) struct Machine<'a> {
     pub(crate) undirected: bool,
     pub(crate) label_keys: IndexSet<Vec<u8>, Keyed>,
     pub(crate) start_keys: IndexSet<Vec<u8>, Keyed>,
-    pub(crate) nodes: IndexSet<Vec<u8>, Keyed>,
+    pub(crate) graph: Graph<'a>,
     pub(crate) marked: Option<usize>,
     pub(crate) draft: Option<Draft<'a>>,
-    pub(crate) edges: Vec<NamedEdge<'a>>,
 }
 
 impl<'a> Machine<'a> {
@@ -74,43 +63,10 @@ impl<'a> Machine<'a> {
             undirected: false,
             label_keys: IndexSet::with_hasher(alloc, keyed),
             start_keys: IndexSet::with_hasher(alloc, keyed),
-            nodes: IndexSet::with_hasher(alloc, keyed),
+            graph: Graph::new(alloc, keyed),
             marked: None,
             draft: None,
-            edges: Vec::new(alloc),
         }
-    }
-}
-
-/// Whether the text is among a few ids.
-fn is_among(ids: &[Vec<u8>], id: &[u8]) -> bool
-    ensures { result ≡ spec.has (ids_of ids.now) id.now }
-{
-    for known in ids {
-        if is_same(id, known.as_slice()) {
-            return true;
-        }
-    }
-    false
-}
-
-/// Whether the text is among the ids.
-fn has_text(ids: &IndexSet<Vec<u8>, Keyed>, id: &[u8]) -> bool
-    ensures { result ≡ spec.has (ids_of ids.now.keys) id.now }
-{
-    if ids.len() <= FEW_IDS {
-        return is_among(ids.as_slice(), id);
-    }
-    ids.get_index_of(id).is_some()
-}
-
-/// Whether there is a text, and it is among the ids.
-fn has_id(ids: &IndexSet<Vec<u8>, Keyed>, found: Option<&[u8]>) -> bool
-    ensures { result ≡ spec.has_value (ids_of ids.now.keys) (option_map (λ text. text.now) found.entry) }
-{
-    match found {
-        None => false,
-        Some(id) => has_text(ids, id),
     }
 }
 
@@ -249,7 +205,7 @@ fn edge_fault(at: u64, machine: &Machine, tag: &Tag) -> Option<GraphError>
     if !is_directed(machine, value(b"directed", tag)) {
         return Some(GraphError::Undirected(at));
     }
-    if machine.edges.len() >= MOST_MOVES as usize {
+    if machine.graph.is_full() {
         return Some(GraphError::TooManyMoves);
     }
     None
@@ -258,10 +214,10 @@ fn edge_fault(at: u64, machine: &Machine, tag: &Tag) -> Option<GraphError>
 fn node_fault(at: u64, machine: &Machine, tag: &Tag) -> Option<GraphError>
     ensures { result ≡ spec.node_fault at (reading_of machine.now) (tag_of tag.now) }
 {
-    if has_id(&machine.nodes, value(b"id", tag)) {
+    if machine.graph.has_node(value(b"id", tag)) {
         return Some(GraphError::DoubleNode(at));
     }
-    if machine.nodes.len() >= MOST_STATES as usize {
+    if machine.graph.node_count() >= MOST_STATES as usize {
         return Some(GraphError::TooManyStates);
     }
     None

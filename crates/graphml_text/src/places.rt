@@ -25,6 +25,16 @@ pub(crate) struct Places {
     places: Vec<u16>,
 }
 
+/// No places.
+pub(crate) fn no_places(alloc: Global) -> Places
+    ensures { (ids : List (List ℕ)) → spec.IsPlaces ids result }
+{
+    Places {
+        first: 0,
+        places: Vec::new(alloc),
+    }
+}
+
 fn with_digit(digit: u8, number: u32) -> Option<u32>
     ensures { result ≡ spec.with_digit digit (Some number) }
 {

@@ -53,7 +53,7 @@ fn read_body(alloc: Global, size: usize, body: &[u8]) -> Result<RawLts, GraphErr
     ensures sound { IfOk result IsRaw }
 {
     match read_tokens(alloc, size, body) {
-        Ok(machine) => match finish(size, &machine) {
+        Ok(machine) => match finish(size, machine) {
             Ok(raw) => Ok(raw),
             Err(fault) => Err(fault),
         },

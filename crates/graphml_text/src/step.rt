@@ -11,16 +11,17 @@ ghost use Rattle.graphml_scan.specs.Values.{text_of};
 ghost use Rattle.graphml_scan.specs.TagValues.{tag_of};
 ghost use Rattle.graphml_text.specs.MachineValues.{reading_of, open_of, draft_of, edge_of, ids_of, MakesEdge, Closes, Adds, Steps};
 
+use crate::edge::NamedEdge;
 use crate::element::{has_text, is_label_key, is_named, is_start_key, value};
 use crate::error::GraphError;
 use crate::front::is_text;
-use crate::machine::{Draft, Machine, NamedEdge, Open, role_of, start_fault};
+use crate::ids::insert_id;
+use crate::machine::{Draft, Machine, Open, role_of, start_fault};
 use crate::role::Role;
 use graphml_scan::{
-    Keyed, Tag, Value, bytes_of, copied, is_same, is_white, longer, longer_by_part, made_of, trim,
+    Tag, Value, bytes_of, copied, is_same, is_white, longer, longer_by_part, made_of, trim,
     trimmed as value_trimmed,
 };
-use indexmap::IndexSet;
 use lts_base::Memory;
 use lts_base::limits::MOST_LABEL_BYTES;
 use std::alloc::Global;
@@ -54,19 +55,12 @@ fn learned(machine: &mut Machine, tag: &Tag) -> Result<(), Memory>
     Ok(())
 }
 
-fn insert_id(ids: &mut IndexSet<Vec<u8>, Keyed>, id: Vec<u8>) -> Result<(), Memory>
-    ensures { OnOk result (ids_of ids.new.keys ≡ spec.with_id (ids_of ids.old.keys) id.items) }
-{
-    ids.insert_full(id)?;
-    Ok(())
-}
-
 fn add_node(machine: &mut Machine, tag: &Tag) -> Result<(), Memory>
     ensures { OnOk result (reading_of machine.new ≡ spec.entered (reading_of machine.old) (tag_of tag.now) Role.Node) }
 {
     let value = needed(machine.alloc, b"id", tag)?;
     let id = Vec::from_slice(machine.alloc, bytes_of(&value))?;
-    insert_id(&mut machine.nodes, id)
+    machine.graph.add_node(id)
 }
 
 fn begin_edge<'a>(machine: &mut Machine<'a>, tag: &Tag<'a, '_>) -> Result<(), Memory>
@@ -264,7 +258,7 @@ fn edge_ended(machine: &mut Machine, at: u64) -> Result<(), GraphError>
         return Ok(());
     };
     let edge = edge_from(machine.alloc, at, draft)?;
-    machine.edges.push(edge)?;
+    machine.graph.add_edge(edge)?;
     Ok(())
 }
 
@@ -284,7 +278,7 @@ fn add_mark(machine: &mut Machine, text: &[u8])
         return;
     }
     if trim(text) == b"true".as_slice() {
-        machine.marked = last_place(machine.nodes.len());
+        machine.marked = last_place(machine.graph.node_count());
     }
 }
 

@@ -20,4 +20,4 @@ pub mod DescentEnds
 pub mod NextLaws
 pub mod SplitOnce
 pub mod RestLaws
-pub mod ChainLaws
+pub mod SortedMovesLaws

@@ -15,4 +15,5 @@ pub mod Sorting
 pub mod Numbered
 pub mod Packed
 pub mod Descent
-pub mod Chains
+pub mod SortedMoves
+pub mod RawPacked

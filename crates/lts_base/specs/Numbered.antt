@@ -72,7 +72,3 @@ renumbered_act numbers (Some a) = Label (get_or numbers a 0)
 -- the move with the numbers of the alphabet
 abbrev pub renumbered : List ℕ → RawMove → Move
 renumbered numbers m = record { from = m.from; act = renumbered_act numbers m.label; to = m.to }
-
--- the move at this place with these numbers
-abbrev pub renumbered_at : List ℕ → List RawMove → ℕ → Move
-renumbered_at numbers raw place = renumbered numbers (get_or raw place (record { from = 0; label = None; to = 0 }))

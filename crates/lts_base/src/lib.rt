@@ -3,7 +3,6 @@
 #![tactic(auto)]
 
 pub mod action;
-mod chains;
 mod cycles;
 mod descent;
 pub mod divergence;
@@ -15,7 +14,9 @@ pub mod memory;
 mod ordering;
 pub mod packed;
 pub mod raw;
+pub mod raw_moves;
 pub mod relation;
+mod sorted_moves;
 pub mod sorting;
 pub mod system;
 
@@ -27,7 +28,8 @@ pub use limits::MOST_LABELS;
 pub use list::{Listed, Pairs, StateList, StateLists, Text, Texts};
 pub use memory::Memory;
 pub use packed::PackedTexts;
-pub use raw::{RawLts, RawMove, RawMoves};
+pub use raw::{RawLts, RawMove};
+pub use raw_moves::RawMoves;
 pub use relation::Relation;
 pub use sorting::{Rule, SplitError, SplitSystems, split};
 pub use system::{Lts, LtsError, Moves, Systems, is_quiet};

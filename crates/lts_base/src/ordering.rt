@@ -11,6 +11,9 @@ pub(crate) fn put_in_order(moves: &mut Vec<Move>)
     ensures permutation { IsPermutation moves.old.items moves.new.items }
     ensures sorted { AreSorted moves.new.items }
 {
+    if are_sorted(moves) {
+        return;
+    }
     sort_states(moves);
     if !are_sorted(moves) {
         moves.sort_unstable();

@@ -5,7 +5,8 @@ ghost use Rattle.lts_base.specs.Built.{RefusesParts, IsFirstFault};
 ghost use Rattle.lts_base.specs.Raw.{RawSystem, IsRaw, AreLabelsOf, as_move};
 
 use crate::action::{Act, Move};
-use crate::list::{Listed, Texts};
+use crate::list::Texts;
+use crate::raw_moves::RawMoves;
 use crate::system::{LtsError, test_move, test_start};
 use std::marker::Model;
 
@@ -37,9 +38,6 @@ impl RawMove {
         }
     }
 }
-
-/// Moves of a file, in the file's order.
-pub type RawMoves = Listed<RawMove>;
 
 /// A system as a file holds it.
 #[derive(Drop, Debug)]
@@ -75,7 +73,7 @@ impl RawLts {
         ensures err { IfErr result (RefusesParts states start (length labels) (map as_move moves)) }
     {
         test_start(states, start)?;
-        test_raw_moves(states, labels.as_slice().len() as u32, moves.as_slice())?;
+        test_raw_moves(states, labels.as_slice().len() as u32, &moves)?;
         Ok(RawLts {
             states,
             start,
@@ -117,12 +115,12 @@ impl RawLts {
     }
 }
 
-fn test_raw_moves(states: u32, labels: u32, moves: &[RawMove]) -> Result<(), LtsError>
+fn test_raw_moves(states: u32, labels: u32, moves: &RawMoves) -> Result<(), LtsError>
     requires { length moves.now < 2 ^ 32 }
     ensures { MatchResult result (λ _. All (IsMoveOf states labels) (map as_move moves.now)) (λ e. (k : ℕ) × IsFirstFault states labels (map as_move moves.now) k e) }
 {
-    for (index, m) in moves.iter().enumerate() {
-        test_move(states, labels, index as u32, m.as_move())?;
+    for place in 0..moves.count() {
+        test_move(states, labels, place as u32, moves.at(place).as_move())?;
     }
     Ok(())
 }

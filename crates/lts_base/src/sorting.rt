@@ -3,19 +3,20 @@ ghost use Rattle.std.specs.Prelude.{◌≡◌, ℕ, ◌^◌, ◌<◌, [], ◌∷
 ghost use Rattle.std.specs.List.{list_any};
 ghost use Rattle.std.specs.List.Sorted.{IsPermutation};
 ghost use Rattle.std.specs.Str.{bytes_eq};
-ghost use Rattle.lts_base.specs.Numbered.{shown, is_side, is_input, marked_side, AreFlagged, AreDistinctLabels, IsFaultAmong, AreNumbersOf, HasLabelBelow, renumbered, renumbered_at};
+ghost use Rattle.lts_base.specs.Numbered.{shown, is_side, is_input, marked_side, AreFlagged, AreDistinctLabels, IsFaultAmong, AreNumbersOf, HasLabelBelow, renumbered};
 ghost use Rattle.lts_base.specs.System.{IsSystem};
 ghost use Rattle.lts_base.specs.Alphabet.{IsLabel, AreRising, text_at, is_reserved};
 ghost use Rattle.lts_base.specs.Sorting.{side_of_mark, side_of, IsGoodLabel, IsLabelFault, all_labels, RefusesSplit, IsAlphabetOf, AreSystemsFor, IsSystemFor};
 
 use crate::action::{Act, Move};
-use crate::chains::places_by_state;
 use crate::labels::Labels;
 use crate::limits::MOST_LABELS;
 use crate::list::{Listed, Text};
 use crate::memory::Memory;
 use crate::packed::PackedTexts;
 use crate::raw::{RawLts, RawMove};
+use crate::raw_moves::RawMoves;
+use crate::sorted_moves::SortedMoves;
 use crate::system::{Lts, Moves, Systems};
 use std::alloc::{AllocError, AllocFailed, Global};
 
@@ -330,7 +331,7 @@ fn system_of(alloc: Global, raw: &RawLts, labels: &Labels) -> Result<Lts, SplitE
     ensures err { IfErr result (λ e. e ≡ SplitError.Memory) }
 {
     let numbers = numbers_of(alloc, raw.labels().as_slice(), labels)?;
-    let moves = moves_over(alloc, raw.states(), raw.moves().as_slice(), &numbers)?;
+    let moves = moves_over(alloc, raw.moves(), &numbers)?;
     match Lts::build(alloc, raw.states(), raw.start(), labels, moves) {
         Ok(lts) => Ok(lts),
         // the parts of a raw system make a system, so only memory can be wanting
@@ -353,70 +354,35 @@ fn numbers_of(alloc: Global, texts: &[Text], labels: &Labels) -> Result<Vec<u32>
     Ok(numbers)
 }
 
-/// The moves with the numbers of the alphabet in place of those of the file; the states that they
-/// leave ascend.
-fn moves_over(
-    alloc: Global,
-    states: u32,
-    raw: &[RawMove],
-    numbers: &[u32],
-) -> Result<Moves, AllocError>
-    requires labels { All (λ m. HasLabelBelow (length numbers.now) m) raw.now }
-    requires few { length raw.now < 2 ^ 32 }
+/// The moves with the numbers of the alphabet in place of those of the file. They are sorted, but for
+/// those of a file with numbers that are too great.
+fn moves_over(alloc: Global, raw: &RawMoves, numbers: &[u32]) -> Result<Moves, AllocError>
+    requires { All (λ m. HasLabelBelow (length numbers.now) m) raw.now }
     ensures { IfOk result (λ ms. IsPermutation (map (renumbered numbers.now) raw.now) ms) }
 {
-    if are_gathered(raw) {
-        return moves_in_turn(alloc, raw, numbers);
+    let mut moves = SortedMoves::new(alloc, raw.count(), are_by_state(raw))?;
+    'places: for place in 0..raw.count() {
+        moves.add(renumber(raw.at(place), numbers))?;
     }
-    let places = places_by_state(alloc, states, raw)?;
-    moves_at(alloc, raw, numbers, &places)
+    moves.into_moves()
 }
 
 /// Whether the states that the moves leave ascend.
-fn are_gathered(raw: &[RawMove]) -> bool {
+fn are_by_state(raw: &RawMoves) -> bool {
     let mut last = 0;
-    for m in raw {
-        if m.from < last {
+    for place in 0..raw.count() {
+        let from = raw.at(place).from;
+        if from < last {
             return false;
         }
-        last = m.from;
+        last = from;
     }
     true
 }
 
-/// The moves in the order of the file.
-fn moves_in_turn(alloc: Global, raw: &[RawMove], numbers: &[u32]) -> Result<Moves, AllocError>
-    requires { All (λ m. HasLabelBelow (length numbers.now) m) raw.now }
-    ensures { IfOk result (λ ms. ms ≡ map (renumbered numbers.now) raw.now) }
-{
-    let mut moves = Vec::with_capacity(alloc, raw.len())?;
-    'moves: for m in raw {
-        moves.push(renumber(m, numbers))?;
-    }
-    Ok(Listed::from_vec(moves))
-}
-
-/// The moves at these places.
-fn moves_at(
-    alloc: Global,
-    raw: &[RawMove],
-    numbers: &[u32],
-    places: &[u32],
-) -> Result<Moves, AllocError>
-    requires labels { All (λ m. HasLabelBelow (length numbers.now) m) raw.now }
-    requires within { All (λ (k : ℕ). k < length raw.now) places.now }
-    ensures { IfOk result (λ ms. ms ≡ map (renumbered_at numbers.now raw.now) places.now) }
-{
-    let mut moves = Vec::with_capacity(alloc, places.len())?;
-    'places: for place in places {
-        moves.push(renumber(&raw[*place as usize], numbers))?;
-    }
-    Ok(Listed::from_vec(moves))
-}
-
-fn renumber(m: &RawMove, numbers: &[u32]) -> Move
-    requires { HasLabelBelow (length numbers.now) m.now }
-    ensures { result ≡ renumbered numbers.now m.now }
+fn renumber(m: RawMove, numbers: &[u32]) -> Move
+    requires { HasLabelBelow (length numbers.now) m }
+    ensures { result ≡ renumbered numbers.now m }
 {
     let act = match m.label {
         None => Act::Tau,

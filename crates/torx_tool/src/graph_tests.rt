@@ -11,11 +11,12 @@ use std::test::Fail;
 pub fn described(alloc: Global, raw: &RawLts) -> Result<Vec<u8>, AllocError> {
     let start = raw.start();
     let states = raw.states();
-    let count = raw.moves().as_slice().len();
+    let count = raw.moves().count();
     let mut text = Vec::new(alloc);
     let head = format!(in alloc; "des ({start},{count},{states})\n")?;
     text.extend_from_slice(head.as_bytes())?;
-    for m in raw.moves().as_slice() {
+    for place in 0..count {
+        let m = raw.moves().at(place);
         let from = m.from;
         let to = m.to;
         let front = format!(in alloc; "({from},\"")?;

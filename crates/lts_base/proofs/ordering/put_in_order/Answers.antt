@@ -16,9 +16,12 @@ returns-then-not-are_sorted-clause-permutation c =
 pub returns-then-not-are_sorted-clause-sorted : goal.returns-then-not-are_sorted-clause-sorted
 returns-then-not-are_sorted-clause-sorted c = AreSorted-from_sort _ c.sort_unstable.ensures.sorted
 
+pub returns-then-are_sorted-clause-sorted : goal.returns-then-are_sorted-clause-sorted
+returns-then-are_sorted-clause-sorted c = subst (λ (ms : List Move). AreSorted ms) c.deref.ensures.value (c.are_sorted.ensures c.if-are_sorted.true)
+
 pub returns-else-not-are_sorted-clause-sorted : goal.returns-else-not-are_sorted-clause-sorted
 returns-else-not-are_sorted-clause-sorted c =
-    subst (λ (ms : List Move). AreSorted ms) c.deref.ensures.value (c.are_sorted.ensures c.if-not-are_sorted.false)
+    subst (λ (ms : List Move). AreSorted ms) c.deref-2.ensures.value (c.are_sorted-2.ensures c.if-not-are_sorted.false)
 
 pub returns-else-not-are_sorted-clause-permutation : goal.returns-else-not-are_sorted-clause-permutation
 returns-else-not-are_sorted-clause-permutation c =

@@ -1,5 +1,0 @@
-use Rattle.graphml_text.proofs.NodeLaws.{node_keys}
-use Rattle.graphml_text.proofs.step.insert_id.Goals as goal
-
-pub returns : goal.returns
-returns c = node_keys (λ v. v.items) _ c.args.ids.now.keys c.args.id c.in_ok-insert_full.ensures.keys
