@@ -1,10 +1,14 @@
 -- Promise: references, and the texts in which they stand.
 use Rattle.std.specs.Prelude.{ℕ, ◌+◌, ◌*◌, Bool, true, false, ◌==◌, nat_lt, List, [], ◌∷◌, Option, Some, None, if◌then◌else◌, codes}
 use Rattle.std.specs.Char.{encode_utf8, is_digit, digit_value}
-use Rattle.std.specs.List.{concat}
+use Rattle.std.specs.List.{concat, list_any}
 use Rattle.std.specs.Str.{bytes_eq}
 use Rattle.graphml_scan.specs.Many.{Cut, ◌>>=◌, many}
 use Rattle.graphml_scan.specs.Piece.{cut_at}
+
+-- a `&` is among the bytes
+abbrev pub has_ampersand : List ℕ → Bool
+has_ampersand text = list_any (λ b. b == 38) text
 
 -- the number is a Unicode scalar value other than 0
 abbrev pub is_character : ℕ → Bool

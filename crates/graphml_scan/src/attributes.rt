@@ -1,7 +1,8 @@
 //! Attributes of tags.
-ghost use Rattle.std.specs.Prelude.{◌≡◌, [], option_map, map, IfOk};
+ghost use Rattle.std.specs.Prelude.{◌≡◌, not, [], option_map, map, IfOk, IfSome};
 ghost use Rattle.graphml_scan.specs.Many.{many};
 ghost use Rattle.graphml_scan.specs.Names.{AddsName};
+ghost use Rattle.graphml_scan.specs.Reference.{has_ampersand};
 ghost use Rattle.graphml_scan.specs.Tag as spec;
 ghost use Rattle.graphml_scan.specs.AttributeValues.{attribute_of, attributes_of};
 
@@ -36,25 +37,29 @@ fn white_at(bytes: &[u8]) -> Option<&[u8]>
     Some(without_white(rest))
 }
 
-/// What stands before the quote, if it has no `<`, and the bytes after the quote.
-fn value_at(quote: u8, bytes: &[u8]) -> Option<(&[u8], &[u8])>
-    ensures { option_map (λ cut. (cut.0.now, cut.1.now)) result ≡ spec.value_at quote bytes.now }
+/// What stands before the quote, if it has no `<`, the bytes after the quote, and whether no `&` stands before it.
+fn value_at(quote: u8, bytes: &[u8]) -> Option<(&[u8], &[u8], bool)>
+    ensures cut { option_map (λ cut. (cut.0.now, cut.1.now)) result ≡ spec.value_at quote bytes.now }
+    ensures plain { IfSome result (λ cut. cut.2 ≡ not (has_ampersand cut.0.now)) }
 {
     let mut count = 0;
+    let mut plain = true;
     for byte in bytes {
         if *byte == quote {
-            return Some((&bytes[..count], &bytes[count + 1..]));
+            return Some((&bytes[..count], &bytes[count + 1..], plain));
         }
         if *byte == b'<' {
             return None;
         }
+        plain &= *byte != b'&';
         count += 1;
     }
     None
 }
 
-fn quoted_at(bytes: &[u8]) -> Option<(&[u8], &[u8])>
-    ensures { option_map (λ cut. (cut.0.now, cut.1.now)) result ≡ spec.quoted_at bytes.now }
+fn quoted_at(bytes: &[u8]) -> Option<(&[u8], &[u8], bool)>
+    ensures cut { option_map (λ cut. (cut.0.now, cut.1.now)) result ≡ spec.quoted_at bytes.now }
+    ensures plain { IfSome result (λ cut. cut.2 ≡ not (has_ampersand cut.0.now)) }
 {
     let [first, rest @ ..] = bytes else {
         return None;
@@ -85,10 +90,10 @@ fn attribute_at<'a>(
     let Some(equal) = after_byte(b'=', without_white(after)) else {
         return Ok(None);
     };
-    let Some((value, rest)) = quoted_at(without_white(equal)) else {
+    let Some((text, rest, plain)) = quoted_at(without_white(equal)) else {
         return Ok(None);
     };
-    let Some(value) = resolved(alloc, value)? else {
+    let Some(value) = resolved(alloc, text, plain)? else {
         return Ok(None);
     };
     Ok(Some((Attribute { name, value }, rest)))

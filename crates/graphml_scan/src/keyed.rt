@@ -21,6 +21,13 @@ impl BuildHasher for Keyed {
 }
 
 impl Keyed {
+    /// The same hashers for every content, for sets that can't be aimed at.
+    pub fn fixed() -> Keyed {
+        Keyed {
+            initial: FoldHasher::default(),
+        }
+    }
+
     /// The hashers of this content.
     pub fn new(content: &[u8]) -> Keyed {
         let mut digest = Digest::new();

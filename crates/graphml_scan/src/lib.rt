@@ -12,8 +12,7 @@ mod token;
 pub use attributes::{Attribute, attributes_at};
 pub use keyed::Keyed;
 pub use piece::{after_text, cut_text, is_same, is_white, name_at, trim, without_white};
-pub use reference::{
-    Value, bytes_of, copied, longer, longer_by_part, made_of, reference_at, trimmed,
-};
+pub use reference::{Value, bytes_of, copied, longer, made_of, reference_at, trimmed};
 pub use tag::Tag;
+pub use tags::{end_tag_at, start_tag_at};
 pub use token::{Markup, markup_at, run_at};

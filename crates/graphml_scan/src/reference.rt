@@ -1,6 +1,5 @@
 //! References, and the texts in which they stand.
-ghost use Rattle.std.specs.Prelude.{◌≡◌, ◌==◌, ◌<◌, ◌≤◌, ◌++◌, length, option_map, if◌then◌else◌, Some, None, IfOk, IfSome, MatchOption, OnOk};
-ghost use Rattle.std.specs.List.{list_any};
+ghost use Rattle.std.specs.Prelude.{◌≡◌, not, ◌<◌, ◌≤◌, ◌++◌, length, option_map, if◌then◌else◌, Some, None, IfOk, IfSome, MatchOption, OnOk};
 ghost use Rattle.std.specs.Char.{encode_utf8, is_digit, digit_value};
 ghost use Rattle.graphml_scan.specs.Piece as piece;
 ghost use Rattle.graphml_scan.specs.Reference as reference;
@@ -153,22 +152,16 @@ pub fn reference_at(bytes: &[u8]) -> Option<(char, &[u8])>
     Some((character, rest))
 }
 
-fn has_reference(bytes: &[u8]) -> bool
-    ensures { result ≡ list_any (λ b. b == 38) bytes.now }
-{
-    for byte in bytes {
-        if *byte == b'&' {
-            return true;
-        }
-    }
-    false
-}
-
-/// The text with its references resolved; None where one isn't in the form.
-pub(crate) fn resolved<'a>(alloc: Global, bytes: &'a [u8]) -> Result<Option<Value<'a>>, Memory>
+/// The text with its references resolved; None where one isn't in the form. Plain text has none.
+pub(crate) fn resolved<'a>(
+    alloc: Global,
+    bytes: &'a [u8],
+    plain: bool,
+) -> Result<Option<Value<'a>>, Memory>
+    requires { plain ≡ not (reference.has_ampersand bytes.now) }
     ensures { IfOk result (λ o. option_map text_of o ≡ reference.resolved bytes.now) }
 {
-    if !has_reference(bytes) {
+    if plain {
         return Ok(Some(Value::Plain(bytes)));
     }
     let Some(text) = made(alloc, bytes)? else {
@@ -274,19 +267,5 @@ pub fn longer<'a>(alloc: Global, value: Value<'a>, more: &[u8]) -> Result<Value<
             let longer = made_of(alloc, own)?;
             Ok(longer)
         }
-    }
-}
-
-/// The same, where the rest is a part of the content.
-pub fn longer_by_part<'a>(
-    alloc: Global,
-    value: Value<'a>,
-    more: &'a [u8],
-) -> Result<Value<'a>, Memory>
-    ensures { IfOk result (λ v. text_of v ≡ text_of value.entry ++ more.now) }
-{
-    match value {
-        Value::Plain([]) => Ok(Value::Plain(more)),
-        other => longer(alloc, other, more),
     }
 }

@@ -28,8 +28,9 @@ fn tag_end_at(bytes: &[u8]) -> Option<(bool, &[u8])>
 }
 
 /// The start tag whose `<` stands before the bytes, with its attributes in the room, and the bytes after it.
+#[inline(always)]
 #[tactic(auto, unfolding(crate::specs::Tag::start_tag_at))]
-pub(crate) fn start_tag_at<'a, 'b>(
+pub fn start_tag_at<'a, 'b>(
     alloc: Global,
     room: &'b mut Vec<Attribute<'a>>,
     bytes: &'a [u8],
@@ -56,7 +57,7 @@ pub(crate) fn start_tag_at<'a, 'b>(
 
 /// The name in the end tag whose `</` stands before the bytes, and the bytes after it.
 #[tactic(auto, unfolding(crate::specs::Tag::end_tag_at))]
-pub(crate) fn end_tag_at(bytes: &[u8]) -> Option<(&[u8], &[u8])>
+pub fn end_tag_at(bytes: &[u8]) -> Option<(&[u8], &[u8])>
     ensures { option_map (λ cut. (cut.0.now, cut.1.now)) result ≡ spec.end_tag_at bytes.now }
 {
     let Some((name, after)) = name_at(bytes) else {

@@ -1,7 +1,7 @@
 -- Laws on the stack of open elements, whose last is the innermost.
-use Rattle.std.proofs.Common.{◌≡◌, ◌∙◌, ℕ, zero, suc, Bool, true, false, cond, ◌==◌, get_or, append_assoc, ap₂, ◌+◌, ◌-◌, ◌<◌, List, [], ◌∷◌, ◌++◌, length, take, drop, map, Some, None, Result, Ok, Err, refl, sym, ap, subst, arith}
+use Rattle.std.proofs.Common.{◌≡◌, ◌∙◌, ℕ, zero, suc, Bool, true, false, cond, ◌==◌, get_or, append_assoc, ap₂, set, ◌+◌, ◌-◌, ◌<◌, List, [], ◌∷◌, ◌++◌, length, take, drop, map, Some, None, Result, Ok, Err, refl, sym, ap, subst, arith}
 use Rattle.std.specs.Prelude.{slice_get}
-use Rattle.std.proofs.lemmas.List.{length_push, map_push, same_from_push, length-map, append-nil, drop_more}
+use Rattle.std.proofs.lemmas.List.{length_push, map_push, same_from_push, length-map, append-nil, drop_more, nil_from_length}
 use Rattle.std.specs.Str.{bytes_eq}
 use Rattle.graphml_text.specs.declared.error.GraphError.{GraphError}
 use Rattle.graphml_text.specs.declared.machine.Open.{Open as LentOpen}
@@ -206,3 +206,23 @@ adds_nothing stack x text is other front o split =
     let kept : open_of x ≡ with_text text (open_of x) = rw other refl in
     let whole = last_split stack x is in
     texted_last stack (take (length stack - 1) stack) stack x x text front o whole whole kept split
+
+-- ---- the first text of an element
+
+set_last : {X : Type 0} (xs : List X) (x y : X) → slice_get xs (length xs - 1) ≡ Some x → set xs (length xs - 1) y ≡ take (length xs - 1) xs ++ y ∷ []
+set_last [] x y e = absurd cc
+set_last (z ∷ []) x y e = refl
+set_last {X} (z ∷ w ∷ xs) x y e =
+    let count : length (z ∷ w ∷ xs) - 1 ≡ suc (length (w ∷ xs) - 1) = omega arith in
+    rw count (ap {A = List X} {B = List X} (λ ys. z ∷ ys) (set_last (w ∷ xs) x y (rw count at e)))
+
+-- an innermost element without a text gets one
+pub put_last : (stack : List LentOpen) (place : ℕ) (x y : LentOpen) (text : List ℕ) → place ≡ length stack - 1 → 0 < length stack → get_or stack place x ≡ x → open_of y ≡ with_text text (open_of x) → Adds stack (set stack place y) text
+put_last stack place x y text last some is more front o split =
+    let there : slice_get stack (length stack - 1) ≡ Some x = slice_get-get_or stack (length stack - 1) x (omega (arith, some)) ∙ ap {A = LentOpen} {B = _} (λ z. Some z) (rw last at is) in
+    rw last (texted_last stack (take (length stack - 1) stack) (set stack (length stack - 1) y) x y text front o (last_split stack x there) (set_last stack x y there) more split)
+
+pub first_text : (o : Open) (found text : List ℕ) → collects o.role ≡ true → found ≡ o.text → length found ≡ 0 → record { name = o.name; at = o.at; role = o.role; text = text } ≡ with_text text o
+first_text o found text counts same none =
+    let empty : o.text ≡ [] = sym same ∙ nil_from_length found none in
+    rw (counts, empty) refl

@@ -8,12 +8,13 @@ use Rattle.graphml_text.specs.declared.error.GraphError.{GraphError}
 use Rattle.graphml_text.specs.declared.error.GraphError.TheVariants.{Memory}
 use Rattle.graphml_scan.specs.Many.{Cut}
 use Rattle.graphml_scan.specs.Reference.{reference_at}
-use Rattle.graphml_scan.specs.Token.{Token, Text, markup_at, token_at, placed_at, IsRun}
+use Rattle.graphml_scan.specs.Tag.{Tag, start_tag_at, end_tag_at}
+use Rattle.graphml_scan.specs.Token.{Token, Text, Start, End, markup_at, token_at, placed_at, IsRun}
 use Rattle.graphml_text.specs.Reading.{Reading}
 use Rattle.graphml_text.specs.Element.{step}
 use Rattle.graphml_text.specs.Document.{stopped, finished, read_on, run_read}
 use Rattle.graphml_text.specs.MachineValues.{Refuses}
-use Rattle.graphml_text.specs.Going.{GoesOn}
+use Rattle.graphml_text.specs.Going.{GoesOn, IsStart}
 use Rattle.graphml_text.proofs.KeptLaws.{kept_step, kept_run}
 use Rattle.graphml_scan.proofs.LengthLaws.{placed_shrinks}
 use Rattle.graphml_text.proofs.RunLaws.{read_on-step, read_on-fault, read_on-none, read_on-end, read_on-run}
@@ -48,6 +49,22 @@ markup_front [] o some front is = absurd (omega (arith, some))
 markup_front (b ∷ bytes) o some front is =
     let rest : take (length (b ∷ bytes) - 1) (drop 1 (b ∷ bytes)) ≡ drop 1 (b ∷ bytes) = take_rest (b ∷ bytes) 1 in
     rw (eq-eqb b 60 front) (sym (rw rest at is))
+
+pub end_front : (bytes : List ℕ) (o : Option (Cut (List ℕ))) → 1 < length bytes → get_or bytes 0 0 ≡ 60 → get_or bytes 1 0 ≡ 47 → o ≡ end_tag_at (take (length bytes - 2) (drop 2 bytes)) → token_at bytes ≡ option_map (λ cut. (End cut.0, cut.1)) o
+unfolding markup_at
+end_front [] o some front slash is = absurd (omega (arith, some))
+end_front (b ∷ []) o some front slash is = absurd (omega (arith, some))
+end_front (b ∷ d ∷ bytes) o some front slash is =
+    let rest : take (length (b ∷ d ∷ bytes) - 2) (drop 2 (b ∷ d ∷ bytes)) ≡ drop 2 (b ∷ d ∷ bytes) = take_rest (b ∷ d ∷ bytes) 2 in
+    rw (eq-eqb b 60 front, eq-eqb d 47 slash, rw rest at is) refl
+
+pub start_front : (bytes : List ℕ) (o : Option (Cut Tag)) → 1 < length bytes → get_or bytes 0 0 ≡ 60 → IsStart (get_or bytes 1 0) → o ≡ start_tag_at (take (length bytes - 1) (drop 1 bytes)) → token_at bytes ≡ option_map (λ cut. (Start cut.0, cut.1)) o
+unfolding markup_at
+start_front [] o some front start is = absurd (omega (arith, some))
+start_front (b ∷ []) o some front start is = absurd (omega (arith, some))
+start_front (b ∷ d ∷ bytes) o some front start is =
+    let rest : take (length (b ∷ d ∷ bytes) - 1) (drop 1 (b ∷ d ∷ bytes)) ≡ drop 1 (b ∷ d ∷ bytes) = take_rest (b ∷ d ∷ bytes) 1 in
+    rw (eq-eqb b 60 front, differs d 47 start.0, differs d 63 start.2, differs d 33 start.1, rw rest at is) refl
 
 pub reference_front : (bytes : List ℕ) (o : Option (Cut (List ℕ))) → 0 < length bytes → get_or bytes 0 0 ≡ 38 → o ≡ reference_at (take (length bytes - 1) (drop 1 bytes)) → token_at bytes ≡ option_map (λ cut. (Text cut.0, cut.1)) o
 reference_front [] o some front is = absurd (omega (arith, some))

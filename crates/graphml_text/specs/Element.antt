@@ -212,6 +212,10 @@ opened at m tag role =
 abbrev pub spaced : ℕ → ℕ
 spaced b = if is_white b then 32 else b
 
+-- the label with spaces for white, unless it has another byte below a space
+abbrev pub clean : List ℕ → Option (List ℕ)
+clean text = if list_any (λ b. nat_lt b 32) (map spaced text) then None else Some (map spaced text)
+
 -- the text, if it isn't empty
 abbrev pub some_text : List ℕ → Option (List ℕ)
 some_text text = if has_bytes text then Some text else None

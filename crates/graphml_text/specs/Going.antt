@@ -26,3 +26,7 @@ Goes size old bytes new rest = GoesOn size (reading_of old) bytes (reading_of ne
 
 abbrev pub Halts : ℕ → Machine → List ℕ → GraphError → Type 0
 Halts size m bytes e = Stops size (reading_of m) bytes e
+
+-- behind a `<`, the byte begins a start tag: it is no `/`, no `!` and no `?`
+abbrev pub IsStart : ℕ → Type 0
+IsStart b = (¬ (b ≡ 47)) × (¬ (b ≡ 33)) × (¬ (b ≡ 63))

@@ -9,12 +9,10 @@ ghost use Rattle.graphml_text.specs.Ends.{AreEdges, IsEdgesFault};
 
 use crate::edge::NamedEdge;
 use crate::error::GraphError;
-use crate::ids::{has_id, insert_id};
+use crate::ids::Ids;
 use crate::moves::{ends_of, keep, moves_of};
 use crate::places::{Places, no_places, places_of};
 use aut_text::RawParts;
-use graphml_scan::Keyed;
-use indexmap::IndexSet;
 use lts_base::Memory;
 use lts_base::limits::{MOST_MOVES, MOST_STATES};
 use std::alloc::Global;
@@ -24,7 +22,7 @@ use std::marker::Model;
 #[derive(Drop)]
 pub(crate) struct Graph<'a> {
     alloc: Global,
-    nodes: IndexSet<Vec<u8>, Keyed>,
+    nodes: Ids<'a>,
     places: Places,
     // the place of the source of the edge that was joined last
     near: Option<usize>,
@@ -42,22 +40,22 @@ impl<'a> Model for Graph<'a> {
 
     ghost use Rattle.std.specs.Prelude.{◌++◌, map};
     ghost use Rattle.aut_text.specs.Parts.{named_moves};
-    ghost use Rattle.graphml_text.specs.MachineValues.{ids_of, edge_of};
+    ghost use Rattle.graphml_text.specs.MachineValues.{edge_of};
     ghost use Rattle.graphml_text.specs.Joined.{joined_of, IsHeld};
 
-    ghost view = { λ a. record { ids = ids_of a.nodes.keys; edges = joined_of (ids_of a.nodes.keys) a.offsets.items (named_moves a.parts) ++ map edge_of a.named.items } };
+    ghost view = { λ a. record { ids = a.nodes; edges = joined_of a.nodes a.offsets.items (named_moves a.parts) ++ map edge_of a.named.items } };
 
-    ghost invariant = { λ a. IsHeld (ids_of a.nodes.keys) a.places a.near a.offsets.items a.parts };
+    ghost invariant = { λ a. IsHeld a.nodes a.places a.near a.offsets.items a.parts };
 }
 
 impl<'a> Graph<'a> {
-    /// No node and no edge, which takes no memory.
-    pub(crate) fn new(alloc: Global, keyed: Keyed) -> Graph<'a>
+    /// No node and no edge of this content, which takes no memory.
+    pub(crate) fn new(alloc: Global, content: &'a [u8]) -> Graph<'a>
         ensures { result ≡ record { ids = []; edges = [] } }
     {
         Graph {
             alloc,
-            nodes: IndexSet::with_hasher(alloc, keyed),
+            nodes: Ids::new(alloc, content),
             places: no_places(alloc),
             near: None,
             parts: RawParts::new(alloc),
@@ -77,7 +75,7 @@ impl<'a> Graph<'a> {
     pub(crate) fn has_node(&self, id: Option<&[u8]>) -> bool
         ensures { result ≡ spec.has_value self.now.ids (option_map (λ text. text.now) id.entry) }
     {
-        has_id(&self.nodes, id)
+        self.nodes.has(id)
     }
 
     /// Whether there are as many edges as there may be.
@@ -95,7 +93,7 @@ impl<'a> Graph<'a> {
     pub(crate) fn add_node(&mut self, id: Vec<u8>) -> Result<(), Memory>
         ensures { OnOk result (self.new ≡ record { ids = spec.with_id self.old.ids id.items; edges = self.old.edges }) }
     {
-        insert_id(&mut self.nodes, id)?;
+        self.nodes.insert(id)?;
         Ok(())
     }
 
@@ -125,7 +123,7 @@ impl<'a> Graph<'a> {
         if self.nodes.len() > MOST_STATES as usize {
             return Ok(());
         }
-        self.places = places_of(self.alloc, &self.nodes)?;
+        self.places = places_of(self.alloc, self.nodes.set())?;
         Ok(())
     }
 
@@ -142,7 +140,7 @@ impl<'a> Graph<'a> {
         if self.nodes.len() > MOST_STATES as usize {
             return false;
         }
-        let Some(ends) = ends_of(&self.nodes, &self.places, self.near, edge) else {
+        let Some(ends) = ends_of(self.nodes.set(), &self.places, self.near, edge) else {
             return false;
         };
         if !keep(&mut self.parts, &mut self.offsets, &ends, edge) {
@@ -163,8 +161,9 @@ impl<'a> Graph<'a> {
             return Ok(self.parts);
         }
         let parts = self.parts;
-        let places = places_of(self.alloc, &self.nodes)?;
-        match moves_of(&self.nodes, &places, parts, &self.named) {
+        let nodes = self.nodes.set();
+        let places = places_of(self.alloc, nodes)?;
+        match moves_of(nodes, &places, parts, &self.named) {
             Ok(parts) => Ok(parts),
             Err(fault) => Err(fault),
         }

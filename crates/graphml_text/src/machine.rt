@@ -8,11 +8,10 @@ ghost use Rattle.graphml_text.specs.MachineValues.{reading_of};
 use crate::element::{is_named, value};
 use crate::error::GraphError;
 use crate::graph::Graph;
-use crate::ids::has_id;
+use crate::ids::Ids;
 use crate::limits::MOST_DEPTH;
 use crate::role::Role;
-use graphml_scan::{Keyed, Tag, Value};
-use indexmap::IndexSet;
+use graphml_scan::{Tag, Value};
 use lts_base::limits::MOST_STATES;
 use std::alloc::Global;
 
@@ -42,8 +41,8 @@ pub(crate) struct Machine<'a> {
     pub(crate) rooted: bool,
     pub(crate) graphed: bool,
     pub(crate) undirected: bool,
-    pub(crate) label_keys: IndexSet<Vec<u8>, Keyed>,
-    pub(crate) start_keys: IndexSet<Vec<u8>, Keyed>,
+    pub(crate) label_keys: Ids<'a>,
+    pub(crate) start_keys: Ids<'a>,
     pub(crate) graph: Graph<'a>,
     pub(crate) marked: Option<usize>,
     pub(crate) draft: Option<Draft<'a>>,
@@ -51,19 +50,18 @@ pub(crate) struct Machine<'a> {
 
 impl<'a> Machine<'a> {
     /// Nothing was read of this content, which takes no memory.
-    pub(crate) fn new(alloc: Global, content: &[u8]) -> Machine<'a>
+    pub(crate) fn new(alloc: Global, content: &'a [u8]) -> Machine<'a>
         ensures { reading_of result ≡ nothing_read }
     {
-        let keyed = Keyed::new(content);
         Machine {
             alloc,
             stack: Vec::new(alloc),
             rooted: false,
             graphed: false,
             undirected: false,
-            label_keys: IndexSet::with_hasher(alloc, keyed),
-            start_keys: IndexSet::with_hasher(alloc, keyed),
-            graph: Graph::new(alloc, keyed),
+            label_keys: Ids::new(alloc, content),
+            start_keys: Ids::new(alloc, content),
+            graph: Graph::new(alloc, content),
             marked: None,
             draft: None,
         }
@@ -116,7 +114,7 @@ fn role_in_node(machine: &Machine, tag: &Tag) -> Role
     if !is_named(b"data", tag) {
         return Role::Passed;
     }
-    if has_id(&machine.start_keys, value(b"key", tag)) {
+    if machine.start_keys.has(value(b"key", tag)) {
         return Role::Mark;
     }
     Role::Passed
@@ -128,7 +126,7 @@ fn role_in_edge(machine: &Machine, tag: &Tag) -> Role
     if !is_named(b"data", tag) {
         return Role::Passed;
     }
-    if has_id(&machine.label_keys, value(b"key", tag)) {
+    if machine.label_keys.has(value(b"key", tag)) {
         return Role::Data;
     }
     Role::Passed

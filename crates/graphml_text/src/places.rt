@@ -62,7 +62,8 @@ fn number_in(digits: &[u8]) -> Option<u32>
     Some(number)
 }
 
-fn number_of(first: u8, id: &[u8]) -> Option<u32>
+/// The number in an id that is this byte and a few digits.
+pub(crate) fn number_of(first: u8, id: &[u8]) -> Option<u32>
     ensures { result ≡ spec.number_of first id.now }
 {
     let [front, digits @ ..] = id else {
@@ -122,7 +123,7 @@ fn add_place(nodes: &IndexSet<Vec<u8>, Keyed>, places: &mut Places, id: &[u8])
 }
 
 /// The first byte of the first id.
-fn first_byte(nodes: &IndexSet<Vec<u8>, Keyed>) -> u8 {
+pub(crate) fn first_byte(nodes: &IndexSet<Vec<u8>, Keyed>) -> u8 {
     match nodes.get_index(0) {
         None => 0,
         Some(id) => match id.as_slice() {

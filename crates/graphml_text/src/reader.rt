@@ -9,14 +9,17 @@ ghost use Rattle.graphml_text.specs.Drawing.{IsDrawing, IsWritten};
 ghost use Rattle.graphml_scan.specs.MarkupValues.{token_of};
 ghost use Rattle.graphml_text.specs.MachineValues.{reading_of, Says, Steps};
 ghost use Rattle.graphml_text.specs.Kept.{IsKept};
-ghost use Rattle.graphml_text.specs.Going.{Goes, Halts, Stops, EndsIn};
+ghost use Rattle.graphml_text.specs.Going.{Goes, Halts, Stops, EndsIn, IsStart};
 
 use crate::ends::finish;
 use crate::error::GraphError;
 use crate::front::{body_of, text_end, unmarked};
 use crate::machine::Machine;
 use crate::step::{ended, started, texted, texted_by_part};
-use graphml_scan::{Attribute, Markup, after_text, is_white, markup_at, reference_at, run_at};
+use graphml_scan::{
+    Attribute, Markup, after_text, end_tag_at, is_white, markup_at, reference_at, run_at,
+    start_tag_at,
+};
 use lts_base::RawLts;
 use std::alloc::Global;
 
@@ -117,6 +120,76 @@ fn run_read<'a>(at: u64, machine: &mut Machine<'a>, run: &'a [u8]) -> Result<(),
 
 /// Reads the markup at the front, and gives the bytes after it; so many bytes are left in all.
 fn read_markup<'a>(
+    alloc: Global,
+    size: usize,
+    room: &mut Vec<Attribute<'a>>,
+    machine: &mut Machine<'a>,
+    bytes: &'a [u8],
+) -> Result<&'a [u8], GraphError>
+    requires left { length bytes.now ≤ size }
+    requires some { 0 < length bytes.now }
+    requires front { slice_index bytes.now 0 ≡ 60 }
+    ensures { MatchResult result (λ rest. Goes size machine.old bytes.now machine.new rest.now) (Halts size machine.old bytes.now) }
+{
+    // most markup is a tag, which is read without a markup in between
+    if bytes.len() == 1 || bytes[1] == b'!' || bytes[1] == b'?' {
+        return read_mark(alloc, size, room, machine, bytes);
+    }
+    if bytes[1] == b'/' {
+        return read_end(size, machine, bytes);
+    }
+    read_start(alloc, size, room, machine, bytes)
+}
+
+/// Reads the start tag at the front.
+fn read_start<'a>(
+    alloc: Global,
+    size: usize,
+    room: &mut Vec<Attribute<'a>>,
+    machine: &mut Machine<'a>,
+    bytes: &'a [u8],
+) -> Result<&'a [u8], GraphError>
+    requires left { length bytes.now ≤ size }
+    requires some { 1 < length bytes.now }
+    requires front { slice_index bytes.now 0 ≡ 60 }
+    requires start { IsStart (slice_index bytes.now 1) }
+    ensures { MatchResult result (λ rest. Goes size machine.old bytes.now machine.new rest.now) (Halts size machine.old bytes.now) }
+{
+    let at = (size - bytes.len()) as u64;
+    let Some((tag, rest)) = start_tag_at(alloc, room, &bytes[1..])? else {
+        return Err(refusal(at, bytes));
+    };
+    match started(at, machine, &tag) {
+        Ok(()) => Ok(rest),
+        Err(fault) => Err(fault),
+    }
+}
+
+/// Reads the end tag at the front.
+fn read_end<'a>(
+    size: usize,
+    machine: &mut Machine<'a>,
+    bytes: &'a [u8],
+) -> Result<&'a [u8], GraphError>
+    requires left { length bytes.now ≤ size }
+    requires some { 1 < length bytes.now }
+    requires front { slice_index bytes.now 0 ≡ 60 }
+    requires slash { slice_index bytes.now 1 ≡ 47 }
+    ensures { MatchResult result (λ rest. Goes size machine.old bytes.now machine.new rest.now) (Halts size machine.old bytes.now) }
+{
+    let at = (size - bytes.len()) as u64;
+    let Some((name, rest)) = end_tag_at(&bytes[2..]) else {
+        return Err(refusal(at, bytes));
+    };
+    match ended(at, machine, name) {
+        Ok(()) => Ok(rest),
+        Err(fault) => Err(fault),
+    }
+}
+
+/// Reads markup of any kind at the front.
+#[inline(never)]
+fn read_mark<'a>(
     alloc: Global,
     size: usize,
     room: &mut Vec<Attribute<'a>>,

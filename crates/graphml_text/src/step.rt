@@ -1,5 +1,5 @@
 //! What each tag and each text adds to what was read.
-ghost use Rattle.std.specs.Prelude.{◌≡◌, ℕ, false, ◌==◌, not, ◌-◌, ◌<◌, ◌≤◌, List, [], ◌∷◌, ◌++◌, nat_lt, length, map, slice_set, option_map, Some, None, OnOk, IfOk, IfSome};
+ghost use Rattle.std.specs.Prelude.{◌≡◌, ℕ, false, ◌-◌, ◌<◌, ◌≤◌, List, [], ◌∷◌, ◌++◌, nat_lt, length, map, slice_set, option_map, Some, None, IsTrue, IsFalse, OnOk, IfOk};
 ghost use Rattle.std.specs.List.{list_any, find};
 ghost use Rattle.std.specs.Str.{is_utf8};
 ghost use Rattle.text_scan.specs.Listing.{has_bytes};
@@ -15,16 +15,16 @@ use crate::edge::NamedEdge;
 use crate::element::{has_text, is_label_key, is_named, is_start_key, value};
 use crate::error::GraphError;
 use crate::front::is_text;
-use crate::ids::insert_id;
 use crate::machine::{Draft, Machine, Open, role_of, start_fault};
 use crate::role::Role;
 use graphml_scan::{
-    Tag, Value, bytes_of, copied, is_same, is_white, longer, longer_by_part, made_of, trim,
+    Tag, Value, bytes_of, copied, is_same, is_white, longer, made_of, trim,
     trimmed as value_trimmed,
 };
 use lts_base::Memory;
 use lts_base::limits::MOST_LABEL_BYTES;
 use std::alloc::Global;
+use text_scan::is_plain;
 
 #[inline(always)]
 fn needed<'a>(alloc: Global, name: &[u8], tag: &Tag<'a, '_>) -> Result<Value<'a>, Memory>
@@ -46,11 +46,11 @@ fn learned(machine: &mut Machine, tag: &Tag) -> Result<(), Memory>
     };
     if is_label_key(tag) {
         let key = Vec::from_slice(machine.alloc, id)?;
-        insert_id(&mut machine.label_keys, key)?;
+        machine.label_keys.insert(key)?;
     }
     if is_start_key(tag) {
         let key = Vec::from_slice(machine.alloc, id)?;
-        insert_id(&mut machine.start_keys, key)?;
+        machine.start_keys.insert(key)?;
     }
     Ok(())
 }
@@ -174,17 +174,6 @@ fn has_control(text: &[u8]) -> bool
     false
 }
 
-fn has_breaks(text: &[u8]) -> bool
-    ensures { result ≡ list_any (λ b. not (spec.spaced b == b)) text.now }
-{
-    for byte in text {
-        if spaced(*byte) != *byte {
-            return true;
-        }
-    }
-    false
-}
-
 fn spaced_text(alloc: Global, text: &[u8]) -> Result<Vec<u8>, Memory>
     ensures { IfOk result (λ v. v.items ≡ map spec.spaced text.now) }
 {
@@ -192,26 +181,29 @@ fn spaced_text(alloc: Global, text: &[u8]) -> Result<Vec<u8>, Memory>
     Ok(label)
 }
 
-/// The label with spaces for white; a part of the content is kept where nothing changes.
-#[tactic(auto, using(crate::proofs::LabelLaws::spaced_same))]
-fn spaced_label<'a>(alloc: Global, value: &Value<'a>) -> Result<Value<'a>, Memory>
-    ensures { IfOk result (λ v. text_of v ≡ map spec.spaced (text_of value.now)) }
+/// Whether the text is a label as it stands: none of its bytes is below a space.
+fn is_clean(text: &[u8]) -> bool
+    ensures control { IsTrue result → list_any (λ b. nat_lt b 32) (map spec.spaced text.now) ≡ false }
+    ensures same { IsTrue result → map spec.spaced text.now ≡ text.now }
 {
-    match value {
-        Value::Plain(text) => {
-            if !has_breaks(text) {
-                return Ok(Value::Plain(text));
-            }
-            let label = spaced_text(alloc, text)?;
-            let value = made_of(alloc, label)?;
-            Ok(value)
-        }
-        Value::Made(text) => {
-            let label = spaced_text(alloc, text.as_slice())?;
-            let value = made_of(alloc, label)?;
-            Ok(value)
-        }
+    is_plain(text)
+}
+
+/// The label with spaces for white; None where it has other bytes below a space.
+fn clean_label<'a>(alloc: Global, value: &Value<'a>) -> Result<Option<Value<'a>>, Memory>
+    ensures { IfOk result (λ o. option_map text_of o ≡ spec.clean (text_of value.now)) }
+{
+    let text = bytes_of(value);
+    if is_clean(text) {
+        let label = copied(alloc, value)?;
+        return Ok(Some(label));
     }
+    if has_control(text) {
+        return Ok(None);
+    }
+    let spaced = spaced_text(alloc, text)?;
+    let label = made_of(alloc, spaced)?;
+    Ok(Some(label))
 }
 
 fn visible<'a>(label: Value<'a>) -> Option<Value<'a>>
@@ -231,12 +223,10 @@ fn edge_from<'a>(alloc: Global, at: u64, draft: Draft<'a>) -> Result<NamedEdge<'
     let Some(value) = label_of(&draft) else {
         return Err(GraphError::NoLabel(at));
     };
-    let text = bytes_of(value);
-    if has_control(text) {
+    let length = bytes_of(value).len();
+    let Some(label) = clean_label(alloc, value)? else {
         return Err(GraphError::Malformed(at));
-    }
-    let length = text.len();
-    let label = spaced_label(alloc, value)?;
+    };
     if !is_text(bytes_of(&label)) {
         return Err(GraphError::Malformed(at));
     }
@@ -345,6 +335,7 @@ fn closed(machine: &mut Machine) -> Result<(), GraphError>
 }
 
 /// Reads a start tag.
+#[inline(always)]
 pub(crate) fn started<'a>(
     at: u64,
     machine: &mut Machine<'a>,
@@ -364,6 +355,7 @@ pub(crate) fn started<'a>(
 }
 
 /// Reads an end tag.
+#[inline(always)]
 pub(crate) fn ended(at: u64, machine: &mut Machine, name: &[u8]) -> Result<(), GraphError>
     ensures { Steps (reading_of machine.new) result (spec.step at (reading_of machine.old) (End name.now)) }
 {
@@ -435,25 +427,26 @@ pub(crate) fn texted_by_part<'a>(
     if !collects_inside(stack.as_slice()) {
         return Ok(());
     }
-    let Some(element) = stack.pop() else {
+    if put_part(stack, more) {
         return Ok(());
-    };
-    let next = with_part(alloc, element, more)?;
-    stack.push(next)?;
-    Ok(())
+    }
+    texted(alloc, stack, more)
 }
 
-fn with_part<'a>(alloc: Global, element: Open<'a>, more: &'a [u8]) -> Result<Open<'a>, Memory>
-    ensures { IfOk result (λ o. open_of o ≡ spec.with_text more.now (open_of element.entry)) }
+/// Makes the part the direct text of the innermost element, where that counts and has none yet.
+fn put_part<'a>(stack: &mut Vec<Open<'a>>, more: &'a [u8]) -> bool
+    ensures put { IsTrue result → Adds stack.old.items stack.new.items more.now }
+    ensures not { IsFalse result → stack.new.items ≡ stack.old.items }
 {
+    let Some(element) = stack.last_mut() else {
+        return false;
+    };
     if !collects(element.role) {
-        return Ok(element);
+        return false;
     }
-    let text = longer_by_part(alloc, element.text, more)?;
-    Ok(Open {
-        name: element.name,
-        at: element.at,
-        role: element.role,
-        text,
-    })
+    if !bytes_of(&element.text).is_empty() {
+        return false;
+    }
+    element.text = Value::Plain(more);
+    true
 }

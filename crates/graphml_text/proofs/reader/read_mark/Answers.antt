@@ -1,7 +1,7 @@
 use Rattle.std.proofs.Common.{Some, None, refl}
 use Rattle.graphml_scan.specs.MarkupValues.{token_of}
 use Rattle.graphml_text.proofs.TokenLaws.{goes_on, stops, begins_none, markup_front}
-use Rattle.graphml_text.proofs.reader.read_markup.Goals as goal
+use Rattle.graphml_text.proofs.reader.read_mark.Goals as goal
 
 pub returns-in_default : goal.returns-in_default
 returns-in_default c = begins_none _ _ _ _ (markup_front _ None c.requires.some c.requires.front (rw c.in_default.is at c.in_ok-markup.ensures)) (c.refusal.ensures _ _ refl c.requires.some)

@@ -1,6 +1,0 @@
-use Rattle.std.proofs.Common.{◌≡◌, ◌==◌, drop}
-use Rattle.std.specs.List.{list_any}
-use Rattle.graphml_scan.proofs.reference.has_reference.Given as goal
-
-abbrev pub invariant-loop-byte : goal.invariant-loop-byte
-invariant-loop-byte l = list_any (λ b. b == 38) (drop l.byte-index l.bytes) ≡ list_any (λ b. b == 38) l.bytes
