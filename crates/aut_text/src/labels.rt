@@ -47,6 +47,7 @@ impl LabelTable {
     }
 
     /// The place of the text, where it is in the table.
+    #[inline(always)]
     pub fn known(&mut self, text: &[u8]) -> Option<u32>
         requires few { length self.old < 2 ^ 32 }
         ensures found { IfSome result (IsAt self.old text.now) }

@@ -64,6 +64,7 @@ impl RawParts {
 
     /// Appends a move whose label is that of a move before it, or which has none; false where there
     /// is no such label, or no memory.
+    #[inline(always)]
     pub fn push_known(&mut self, from: u32, label: Option<&[u8]>, to: u32) -> bool
         requires few { length self.old.moves < 2 ^ 32 - 1 }
         ensures added { IsTrue result → AddsMove self.old self.new (record { from = from; label = option_map (λ text. text.now) label.entry; to = to }) }
@@ -76,6 +77,7 @@ impl RawParts {
         }
     }
 
+    #[inline(always)]
     fn push_known_label(&mut self, from: u32, text: &[u8], to: u32) -> bool
         requires few { length self.old.moves < 2 ^ 32 - 1 }
         ensures added { IsTrue result → AddsMove self.old self.new (record { from = from; label = Some text.now; to = to }) }

@@ -1,10 +1,11 @@
 //! Moves in the form in which most files write them, which is read faster than any other.
-ghost use Rattle.std.specs.Prelude.{◌≡◌, ◌<◌, ◌∷◌, ◌++◌, [], IfSome};
+ghost use Rattle.std.specs.Prelude.{◌≡◌, ◌<◌, ◌∷◌, ◌++◌, [], false, IfSome};
 ghost use Rattle.std.specs.Char.{digit_value};
+ghost use Rattle.text_scan.specs.Blank.{is_blank, trimmed};
 ghost use Rattle.aut_text.specs.Plain as plain;
 
 use lts_base::limits::MOST_STATES;
-use text_scan::{MOST_DIGITS, decimal};
+use text_scan::{MOST_DIGITS, trim};
 
 /// The decimal at the front, where it is below the states, and the bytes after it; it may be said
 /// wrongly that there is none.
@@ -39,22 +40,25 @@ fn digit_of(byte: u8) -> Option<u64>
     Some((byte - b'0') as u64)
 }
 
-/// The bytes after this one, where it is the first.
-fn after(bytes: &[u8], mark: u8) -> Option<&[u8]>
-    ensures { IfSome result (λ rest. bytes.now ≡ mark ∷ rest.now) }
+/// The bytes between these two, where they are the first and the last but for blanks.
+fn between(bytes: &[u8], first: u8, last: u8) -> Option<&[u8]>
+    requires first { is_blank first ≡ false }
+    requires last { is_blank last ≡ false }
+    ensures { IfSome result (λ inner. trimmed bytes.now ≡ first ∷ (inner.now ++ last ∷ [])) }
 {
     match bytes {
-        [first, rest @ ..] if *first == mark => Some(rest),
-        _ => None,
+        // most lines have no blanks
+        [front, inner @ .., back] if *front == first && *back == last => Some(inner),
+        _ => between_blanks(bytes, first, last),
     }
 }
 
-/// The bytes before this one, where it is the last.
-fn before(bytes: &[u8], mark: u8) -> Option<&[u8]>
-    ensures { IfSome result (λ front. bytes.now ≡ front.now ++ mark ∷ []) }
+/// The same, where blanks may stand before and after.
+fn between_blanks(bytes: &[u8], first: u8, last: u8) -> Option<&[u8]>
+    ensures { IfSome result (λ inner. trimmed bytes.now ≡ first ∷ (inner.now ++ last ∷ [])) }
 {
-    match bytes {
-        [front @ .., last] if *last == mark => Some(front),
+    match trim(bytes) {
+        [front, inner @ .., back] if *front == first && *back == last => Some(inner),
         _ => None,
     }
 }
@@ -78,11 +82,10 @@ fn cut_digits(bytes: &[u8]) -> (&[u8], &[u8])
 fn whole_number(bytes: &[u8], states: u64) -> Option<u64>
     ensures { IfSome result (λ n. plain.HasNumber states bytes.now n []) }
 {
-    let value = decimal(bytes)?;
-    if value >= states {
-        return None;
+    match number(bytes, states)? {
+        (value, []) => Some(value),
+        _ => None,
     }
-    Some(value)
 }
 
 /// The ends of the move and the bytes between its first and its last comma; it may be said wrongly
@@ -90,9 +93,10 @@ fn whole_number(bytes: &[u8], states: u64) -> Option<u64>
 pub(crate) fn plain_parts(text: &[u8], states: u64) -> Option<(u64, &[u8], u64)>
     ensures { IfSome result (λ m. plain.IsPlainText states text.now m.0 m.1.now m.2) }
 {
-    let (from, others) = number(after(text, b'(')?, states)?;
-    let (front, digits) = cut_digits(before(after(others, b',')?, b')')?);
-    let middle = before(front, b',')?;
+    let inner = between(text, b'(', b')')?;
+    let (from, others) = number(trim(inner), states)?;
+    let (front, digits) = cut_digits(others);
+    let middle = between(front, b',', b',')?;
     let to = whole_number(digits, states)?;
     Some((from, middle, to))
 }

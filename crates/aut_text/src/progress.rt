@@ -49,6 +49,7 @@ impl Progress {
     }
 
     /// Reads the next line.
+    #[inline(always)]
     pub fn line(&mut self, line: &[u8]) -> Result<(), AutError>
         requires { self.old.number < 2 ^ 32 - 1 }
         ensures { MatchResult result (λ _. Steps self.old line.now self.new) (IsNextFault self.old line.now) }

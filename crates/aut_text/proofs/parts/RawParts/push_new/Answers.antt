@@ -1,4 +1,4 @@
-use Rattle.std.proofs.Common.{◌≡◌, length, inr, refl}
+use Rattle.std.proofs.Common.{inr, refl}
 use Rattle.aut_text.specs.Parts.{IsNumber}
 use Rattle.aut_text.proofs.parts.RawParts.push_new.Goals as goal
 use Rattle.aut_text.proofs.PartsLaws.{IsParts-push, Suits-label, AddsMove-push, IsNumber-keeps, named_at}
