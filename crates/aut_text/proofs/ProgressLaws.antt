@@ -3,7 +3,6 @@ use Rattle.std.proofs.Common.{◌≡◌, ◌∙◌, ℕ, ◌+◌, ◌<◌, ◌�
 use Rattle.std.proofs.lemmas.List.{append-nil, append_assoc, length_push, length-append}
 use Rattle.std.proofs.lemmas.List.Elements.{filter-append}
 use Rattle.std.specs.List.{AllZip}
-use Rattle.indexmap.proofs.SetLemmas.{AllZip-push}
 use Rattle.lts_base.specs.Raw.{RawSystem}
 use Rattle.text_scan.specs.Lines.{lines_of}
 use Rattle.aut_text.specs.declared.header.Header.{Header}
@@ -23,6 +22,13 @@ use Rattle.lts_base.specs.declared.limits.TheConstants.{MOST_LINE_BYTES, MOST_MO
 -- no line was read
 pub StandsAfter-none : StandsAfter [] (record { head = None; parts = no_parts; number = 0 })
 StandsAfter-none = record { number = refl; parts = (refl, refl) }
+
+-- lists that agree item by item, with one more item at the end of each
+AllZip-push : {A B : Type 0} (R : A → B → Type 0) (xs : List A) (ys : List B) (x : A) (y : B) → AllZip R xs ys → R x y → AllZip R (xs ++ x ∷ []) (ys ++ y ∷ [])
+AllZip-push R [] [] x y are is = (is, tt)
+AllZip-push R [] (b ∷ ys) x y are is = absurd are
+AllZip-push R (a ∷ xs) [] x y are is = absurd are
+AllZip-push R (a ∷ xs) (b ∷ ys) x y are is = (are.0, AllZip-push R xs ys x y are.1 is)
 
 -- the moves with that of a line
 pub adds_moves : (states : ℕ) (others : List (List ℕ)) (line : List ℕ) (moves new : List NamedMove) → AreMoves states others moves → AddsLine states line moves new → AreMoves states (others ++ line ∷ []) new

@@ -1,5 +1,7 @@
 -- Private: the moves of a file with the texts of their labels, and how the label list of a system is made of them.
-use Rattle.std.specs.Prelude.{◌≡◌, ℕ, ◌<◌, ◌≤◌, List, [], ◌∷◌, ◌++◌, ◌+◌, length, map, All, Option, option_map, ◌⊎◌}
+use Rattle.std.specs.Prelude.{◌≡◌, ℕ, ◌<◌, ◌≤◌, List, [], ◌∷◌, ◌++◌, ◌+◌, length, map, All, Option, Some, None, option_map, ◌⊎◌}
+use Rattle.std.specs.Map.{lookup}
+use Rattle.std.specs.Str.{bytes_eq}
 use Rattle.lts_base.specs.declared.raw.RawMove.{RawMove}
 use Rattle.lts_base.specs.Alphabet.{IsLabel, text_at}
 use Rattle.lts_base.specs.Raw.{AreLabelsOf, Carries}
@@ -38,9 +40,18 @@ pub record AreTexts (labels : List (List ℕ)) : Type 0 where
   pub texts : All IsLabel labels
   pub distinct : (j k : ℕ) → j < k → k < length labels → ¬ (text_at labels j ≡ text_at labels k)
 
+-- the entries with the texts of their keys
+abbrev pub texts_of : {K : Type 0} → (K → List ℕ) → List (K × ℕ) → List (List ℕ × ℕ)
+texts_of text_in entries = map (λ e. (text_in e.0, e.1)) entries
+
 -- the text stands at the place n
 abbrev pub IsAt : List (List ℕ) → List ℕ → ℕ → Type 0
 IsAt labels text n = (n < length labels) × (text_at labels n ≡ text)
+
+-- the entries give the place of each text, and of no other
+pub record ArePlaces (entries : List (List ℕ × ℕ)) (labels : List (List ℕ)) : Type 0 where
+  pub found : (text : List ℕ) (n : ℕ) → lookup (bytes_eq text) entries ≡ Some n → IsAt labels text n
+  pub lacks : (text : List ℕ) → lookup (bytes_eq text) entries ≡ None → Lacks labels text
 
 -- n is the place of the text, which stood there before or is new at the end
 abbrev pub IsNumber : List (List ℕ) → List (List ℕ) → List ℕ → ℕ → Type 0

@@ -3,13 +3,13 @@ ghost use Rattle.std.specs.Prelude.{◌≡◌, ◌^◌, ◌<◌, [], ◌∷◌, 
 ghost use Rattle.lts_base.specs.Alphabet.{IsLabel};
 ghost use Rattle.aut_text.specs.Parts.{AreTexts, IsAt, Lacks};
 
-use indexmap::IndexSet;
 use lts_base::{Memory, Text, Texts};
 use std::alloc::Global;
+use std::collections::BTreeMap;
 use std::marker::Model;
 
 /// How many places are kept of labels that were asked for.
-const SLOTS: usize = 4_096;
+const SLOTS: usize = 16_384;
 
 /// An odd number whose products have well mixed first bits.
 const SPREAD: u64 = 0x9e37_79b9_7f4a_7c15;
@@ -18,20 +18,22 @@ const SPREAD: u64 = 0x9e37_79b9_7f4a_7c15;
 #[derive(Drop)]
 pub struct LabelTable {
     alloc: Global,
-    texts: IndexSet<Vec<u8>>,
+    texts: Vec<Text>,
+    // an order and no hash, since a file could have labels that share one
+    places: BTreeMap<Vec<u8>, u32>,
     // the place of a label that was asked for, for each slot; each is compared before it is used
-    recent: [u32; SLOTS],
+    recent: Vec<u32>,
 }
 
 impl Model for LabelTable {
     ghost use Rattle.std.specs.Prelude.{ℕ, List, map};
-    ghost use Rattle.aut_text.specs.Parts.{AreTexts};
+    ghost use Rattle.aut_text.specs.Parts.{AreTexts, ArePlaces, texts_of};
 
     ghost Value = { List (List ℕ) };
 
-    ghost view = { λ a. map (λ v. v.items) a.texts.keys };
+    ghost view = { λ a. a.texts.items };
 
-    ghost invariant = { λ a. AreTexts (map (λ v. v.items) a.texts.keys) };
+    ghost invariant = { λ a. AreTexts a.texts.items × ArePlaces (texts_of (λ v. v.items) a.places.entries) a.texts.items };
 }
 
 impl LabelTable {
@@ -41,8 +43,9 @@ impl LabelTable {
     {
         LabelTable {
             alloc,
-            texts: IndexSet::new(alloc),
-            recent: [0; SLOTS],
+            texts: Vec::new(alloc),
+            places: BTreeMap::new(alloc),
+            recent: Vec::new(alloc),
         }
     }
 
@@ -55,24 +58,43 @@ impl LabelTable {
         ensures same { self.new ≡ self.old }
     {
         let slot = slot_of(text);
-        let place = self.recent[slot];
-        if self.stands_at(place, text) {
-            return Some(place);
+        if let Some(place) = self.recent.get(slot).copied() {
+            if self.stands_at(place, text) {
+                return Some(place);
+            }
         }
-        let Some(found) = self.texts.get_index_of(text) else {
+        let Some(place) = self.place_of(text) else {
             return None;
         };
-        self.recent[slot] = found as u32;
-        Some(found as u32)
+        self.note(slot, place);
+        Some(place)
     }
 
     /// Whether the text stands at this place.
     fn stands_at(&self, place: u32, text: &[u8]) -> bool
         ensures { IsTrue result → IsAt self.now text.now place }
     {
-        match self.texts.get_index(place as usize) {
-            Some(key) => key.as_slice() == text,
+        match self.texts.get(place as usize) {
+            Some(known) => known.as_slice() == text,
             None => false,
+        }
+    }
+
+    /// The place of the text by a search.
+    #[inline(never)]
+    fn place_of(&self, text: &[u8]) -> Option<u32>
+        ensures found { IfSome result (IsAt self.now text.now) }
+        ensures none { IfNone result (Lacks self.now text.now) }
+    {
+        self.places.get(text).copied()
+    }
+
+    /// Keeps a place in a slot, where there are slots.
+    fn note(&mut self, slot: usize, place: u32)
+        ensures same { self.new ≡ self.old }
+    {
+        if let Some(recent) = self.recent.get_mut(slot) {
+            *recent = place;
         }
     }
 
@@ -84,6 +106,7 @@ impl LabelTable {
     }
 
     /// Puts a text at the end that isn't in the table.
+    #[inline(never)]
     pub fn add(&mut self, text: &[u8]) -> Result<(), Memory>
         requires few { length self.old < 2 ^ 32 }
         requires label { IsLabel text.now }
@@ -92,8 +115,12 @@ impl LabelTable {
         ensures err { OnErr result (self.new ≡ self.old) }
         ensures texts { AreTexts self.new }
     {
+        take_slots(self.alloc, &mut self.recent)?;
         let key = Vec::from_slice(self.alloc, text)?;
-        self.texts.insert_full(key)?;
+        let last = Text::from_vec(Vec::from_slice(self.alloc, text)?);
+        self.texts.reserve(1)?;
+        self.places.insert(key, self.texts.len() as u32)?;
+        self.texts.push_reserved(last);
         Ok(())
     }
 
@@ -101,20 +128,22 @@ impl LabelTable {
     pub fn into_texts(self) -> Result<Texts, Memory>
         ensures { IfOk result (λ texts. texts ≡ self) }
     {
-        let mut texts = Texts::new(self.alloc);
-        for text in self.texts {
-            texts.push(Text::from_vec(text))?;
-        }
-        Ok(texts)
+        Ok(Texts::from_vec(self.texts))
     }
 }
 
-/// The slot of a label, from its length and its first and last bytes.
-fn slot_of(text: &[u8]) -> usize
-    ensures { result < 4_096 }
-{
-    let ends = front_of(text) ^ back_of(text).rotate_left(32) ^ text.len() as u64;
-    (ends.wrapping_mul(SPREAD) >> 52) as usize % SLOTS
+/// Takes the memory of the slots before the first label is kept.
+fn take_slots(alloc: Global, recent: &mut Vec<u32>) -> Result<(), Memory> {
+    if recent.is_empty() {
+        *recent = vec![in alloc; 0; SLOTS]?;
+    }
+    Ok(())
+}
+
+/// The slot of a label, from its first and last bytes.
+fn slot_of(text: &[u8]) -> usize {
+    let ends = front_of(text) ^ back_of(text).rotate_left(32);
+    (ends.wrapping_mul(SPREAD) >> 50) as usize % SLOTS
 }
 
 /// The first bytes of a text as a number, or all bytes of a very short one.

@@ -52,13 +52,7 @@ impl RawParts {
     {
         match label {
             None => self.push_tau(from, to),
-            Some(text) => {
-                // most moves have a label that a move before them has
-                if self.push_known_label(from, text, to) {
-                    return Ok(());
-                }
-                self.push_labelled(from, text, to)
-            }
+            Some(text) => self.push_labelled(from, text, to),
         }
     }
 

@@ -1,4 +1,3 @@
-pub mod MarkLaws
 pub mod FindLaws
 pub mod RunLaws
 pub mod OfferLaws

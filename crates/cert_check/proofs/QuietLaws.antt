@@ -11,7 +11,7 @@ use Rattle.lts_base.specs.System.{System, HasMove, IsQuiet, IsOnTauCycle, IsTauP
 use Rattle.lts_base.proofs.Leads.{HasMove-from_parts}
 use Rattle.lts_base.proofs.TauLaws.{TauLeads-here, TauLeads-move, TauLeads-join}
 use Rattle.lts_base.proofs.ListLaws.{none_contained}
-use Rattle.cert_check.specs.Finds.{Adds}
+use Rattle.lts_base.specs.Finds.{Adds}
 use Rattle.cert_check.specs.Quiet.{AreQuiet, GivesSome}
 
 -- a move with Tau leads from p to a state from which such moves lead to q

@@ -6,7 +6,7 @@ use Rattle.std.specs.List.Sorted.{IsNonDecreasingBy, IsPartitionPoint}
 use Rattle.std.proofs.lemmas.List.{take_all, get_or-take, get_or-drop, length-take-le, length-drop, get_or_default, append-nil}
 use Rattle.std.proofs.lemmas.List.Kept.{AllPairs-filter}
 use Rattle.std.proofs.lemmas.List.Elements.{All-nil, All-contains}
-use Rattle.cert_check.proofs.FindLaws.{Adds-kept, Contains-more, Contains-added}
+use Rattle.lts_base.proofs.FindLaws.{Adds-kept, Contains-more, Contains-added}
 use Rattle.std.proofs.lemmas.Bool.{cases_eq, cases_lt, false≢true, eqb-true, ltb-true}
 use Rattle.std.proofs.lemmas.Bool.Decides.{nat_tests}
 use Rattle.lts_base.specs.declared.action.Act.{Act}
@@ -15,7 +15,7 @@ use Rattle.lts_base.specs.declared.action.Move.{Move}
 use Rattle.lts_base.specs.System.{System, IsSystem, IsMoveOf, label_count, HasMove, AreMovesOf, AreSorted, IsMoveAtMost, act_place, leaves}
 use Rattle.lts_base.proofs.Leads.{HasMove-from_parts}
 use Rattle.lts_base.proofs.ListLaws.{none_contained}
-use Rattle.cert_check.specs.Finds.{Adds, IsAdded}
+use Rattle.lts_base.specs.Finds.{Adds, IsAdded}
 use Rattle.cert_check.specs.Runs.{move_place, AreMovesWith}
 
 -- what the tests say of a place, said of the numbers

@@ -1,4 +1,3 @@
-pub mod Finds
 pub mod Numbers
 pub mod Quiet
 pub mod Present

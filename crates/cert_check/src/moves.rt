@@ -4,7 +4,7 @@ ghost use Rattle.std.specs.Prelude.{◌≡◌, ◌↔◌, ℕ, ◌<◌, ◌≤�
 ghost use Rattle.std.specs.List.Sorted.{IsNonDecreasingBy, IsPartitionPoint};
 ghost use Rattle.lts_base.specs.declared.action.Move.{Move as TheMove};
 ghost use Rattle.lts_base.specs.System.{HasMove, act_place};
-ghost use Rattle.cert_check.specs.Finds.{Adds};
+ghost use Rattle.lts_base.specs.Finds.{Adds};
 ghost use Rattle.cert_check.specs.Runs.{AreMovesWith, move_place};
 
 use crate::marks::Marks;

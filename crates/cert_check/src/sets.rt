@@ -4,7 +4,7 @@ ghost use Rattle.lts_base.specs.System.{IsItemOf, IsQuiet, HasMove};
 ghost use Rattle.lts_base.specs.After.{IsSetAfter};
 ghost use Rattle.lts_base.specs.Next.{IsNext};
 ghost use Rattle.lts_base.specs.Path.{Leads, IsSeen};
-ghost use Rattle.cert_check.specs.Finds.{Adds, AreReached};
+ghost use Rattle.lts_base.specs.Finds.{Adds, AreReached};
 
 use crate::marks::Marks;
 use crate::moves::spread;

@@ -12,7 +12,7 @@ use Rattle.trace_text.specs.Lines.{line}
 use Rattle.torx_words.specs.Accepted.{Shape}
 use Rattle.torx_words.specs.Form.{Reading}
 use Rattle.torx_words.specs.Meaning.{AskedSorting, sorting_of, divergence_of, file_at}
-use Rattle.torx_words.specs.declared.form.ValueKind.TheVariants.{Marks, Divergence as Divergent, Name}
+use Rattle.torx_words.specs.Options.{marks_option, inputs_option, divergence_option, plain_shape}
 use Rattle.tool_base.specs.Contents.{Contents}
 use Rattle.tool_base.specs.Sources.{Sources, AreSystems, RefusesSources, all_names}
 use Rattle.tool_base.specs.Pages.{Page, Command}
@@ -21,13 +21,7 @@ use Rattle.cmd_angelic.specs.declared.outcome.AngelicOutcome.TheVariants.{Printe
 
 -- the form of the words: `angelic [--marks prefix|suffix | --inputs FILE] [--divergence refuse|quiet] FILE`
 abbrev pub angelic_shape : Shape
-angelic_shape = record {
-  options = record { name = codes "marks"; kind = Marks } ∷ record { name = codes "inputs"; kind = Name } ∷ record { name = codes "divergence"; kind = Divergent } ∷ [];
-  required = [];
-  clashes = [];
-  least = 1;
-  most = 1;
-}
+angelic_shape = plain_shape (marks_option ∷ inputs_option ∷ divergence_option ∷ []) 1 1
 
 -- what the words ask for: how labels are sorted, how cycles of moves with Tau are read, and the system's file
 pub record AskedAngelic : Type 0 where

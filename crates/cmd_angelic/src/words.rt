@@ -6,22 +6,11 @@ ghost use Rattle.cmd_angelic.specs.Named.{request_from};
 
 use lts_base::Divergence;
 use std::alloc::Global;
-use torx_words::{Form, Given, NamedOption, Sorting, ValueKind, WordsError, read_words};
+use torx_words::{
+    DIVERGENCE, Form, Given, INPUTS, MARKS, NamedOption, Sorting, WordsError, read_words,
+};
 
-static OPTIONS: [NamedOption<'static>; 3] = [
-    NamedOption {
-        name: "marks",
-        kind: ValueKind::Marks,
-    },
-    NamedOption {
-        name: "inputs",
-        kind: ValueKind::Name,
-    },
-    NamedOption {
-        name: "divergence",
-        kind: ValueKind::Divergence,
-    },
-];
+static OPTIONS: [NamedOption<'static>; 3] = [MARKS, INPUTS, DIVERGENCE];
 
 /// What the words ask for.
 #[derive(Clone, Copy, Debug)]
@@ -41,17 +30,8 @@ pub(crate) fn read_request<'a>(
 ) -> Result<Request<'a>, WordsError>
     ensures { IsAsked (asked angelic_shape angelic_of (map string_bytes words.entry.now)) request_from result }
 {
-    let form = Form {
-        options: &OPTIONS,
-        required: &[],
-        clashes: &[],
-        least: 1,
-        most: 1,
-    };
-    match read_words(alloc, &form, words) {
-        Ok(given) => Ok(request_of(&given)),
-        Err(error) => Err(error),
-    }
+    let given = read_words(alloc, &Form::plain(&OPTIONS, 1, 1), words)?;
+    Ok(request_of(&given))
 }
 
 fn request_of<'a>(given: &Given<'a>) -> Request<'a>

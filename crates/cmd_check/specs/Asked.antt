@@ -8,7 +8,7 @@ use Rattle.torx_words.specs.Accepted.{Shape}
 use Rattle.torx_words.specs.Form.{Reading, stands}
 use Rattle.torx_words.specs.Meaning.{AskedSorting, sorting_of, mode_of, divergence_of, number_of, file_at}
 use Rattle.torx_words.specs.Named.{sorting_from}
-use Rattle.torx_words.specs.declared.form.ValueKind.TheVariants.{Flag, Marks, Divergence as HowDivergent, Name, Number}
+use Rattle.torx_words.specs.Options.{marks_option, inputs_option, divergence_option, uioco_option, flag_option, number_option, plain_shape}
 use Rattle.tool_base.specs.Sources.{Sources}
 use Rattle.cmd_check.specs.declared.words.Check.{Check}
 
@@ -28,16 +28,9 @@ pub record AskedCheck : Type 0 where
 
 -- the options, and two files
 abbrev pub check_shape : Shape
-check_shape = record {
-  options = record { name = codes "marks"; kind = Marks } ∷ record { name = codes "inputs"; kind = Name } ∷
-      record { name = codes "divergence"; kind = HowDivergent } ∷ record { name = codes "uioco"; kind = Flag } ∷
-      record { name = codes "enabled"; kind = Flag } ∷ record { name = codes "cert"; kind = Flag } ∷
-      record { name = codes "pairs"; kind = Number 1 MOST_PAIRS } ∷ record { name = codes "members"; kind = Number 1 MOST_MEMBERS } ∷ [];
-  required = [];
-  clashes = [];
-  least = 2;
-  most = 2;
-}
+check_shape = plain_shape (marks_option ∷ inputs_option ∷ divergence_option ∷ uioco_option ∷
+    flag_option (codes "enabled") ∷ flag_option (codes "cert") ∷
+    number_option (codes "pairs") 1 MOST_PAIRS ∷ number_option (codes "members") 1 MOST_MEMBERS ∷ []) 2 2
 
 -- what a reading of the words asks for: the specification is the first file
 abbrev pub check_of : Reading → AskedCheck

@@ -8,48 +8,21 @@ ghost use Rattle.cmd_check.specs.Asked.{check_from, check_of, check_shape};
 use lts_base::limits::{MOST_MEMBERS, MOST_PAIRS, USUAL_MEMBERS, USUAL_PAIRS};
 use lts_base::{Divergence, Mode};
 use std::alloc::Global;
-use torx_words::{Form, Given, NamedOption, Sorting, ValueKind, WordsError, read_words};
+use torx_words::{
+    DIVERGENCE, Form, Given, INPUTS, MARKS, NamedOption, Sorting, UIOCO, WordsError, flag_option,
+    number_option, read_words,
+};
 
 /// The options of `check`.
 static OPTIONS: [NamedOption<'static>; 8] = [
-    NamedOption {
-        name: "marks",
-        kind: ValueKind::Marks,
-    },
-    NamedOption {
-        name: "inputs",
-        kind: ValueKind::Name,
-    },
-    NamedOption {
-        name: "divergence",
-        kind: ValueKind::Divergence,
-    },
-    NamedOption {
-        name: "uioco",
-        kind: ValueKind::Flag,
-    },
-    NamedOption {
-        name: "enabled",
-        kind: ValueKind::Flag,
-    },
-    NamedOption {
-        name: "cert",
-        kind: ValueKind::Flag,
-    },
-    NamedOption {
-        name: "pairs",
-        kind: ValueKind::Number {
-            least: 1,
-            most: MOST_PAIRS as u64,
-        },
-    },
-    NamedOption {
-        name: "members",
-        kind: ValueKind::Number {
-            least: 1,
-            most: MOST_MEMBERS,
-        },
-    },
+    MARKS,
+    INPUTS,
+    DIVERGENCE,
+    UIOCO,
+    flag_option!("enabled"),
+    flag_option!("cert"),
+    number_option!("pairs", 1, MOST_PAIRS as u64),
+    number_option!("members", 1, MOST_MEMBERS),
 ];
 
 /// What `check` is asked for.
@@ -80,17 +53,8 @@ pub fn read_check<'a>(alloc: Global, words: &'a [String]) -> Result<Check<'a>, W
     ensures asked { IsAsked (asked check_shape check_of (map string_bytes words.entry.now)) check_from result }
     ensures limits { IfOk result (λ c. (0 < c.pairs) × (c.pairs ≤ MOST_PAIRS) × (c.members ≤ MOST_MEMBERS)) }
 {
-    let form = Form {
-        options: &OPTIONS,
-        required: &[],
-        clashes: &[],
-        least: 2,
-        most: 2,
-    };
-    match read_words(alloc, &form, words) {
-        Ok(given) => Ok(check_given(&given)),
-        Err(error) => Err(error),
-    }
+    let given = read_words(alloc, &Form::plain(&OPTIONS, 2, 2), words)?;
+    Ok(check_given(&given))
 }
 
 fn check_given<'a>(given: &Given<'a>) -> Check<'a>

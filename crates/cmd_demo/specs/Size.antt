@@ -3,12 +3,13 @@ use Rattle.std.specs.Prelude.{ℕ, ◌≤◌, [], Option}
 use Rattle.torx_words.specs.Accepted.{Shape}
 use Rattle.torx_words.specs.Form.{Reading}
 use Rattle.torx_words.specs.Meaning.{file_at}
+use Rattle.torx_words.specs.Options.{plain_shape}
 use Rattle.torx_words.specs.Values.{number_in}
 use Rattle.cmd_demo.specs.declared.limits.TheConstants.{LEAST_DEMO, MOST_DEMO}
 
 -- the form of the words: `demo N`
 abbrev pub demo_shape : Shape
-demo_shape = record { options = []; required = []; clashes = []; least = 1; most = 1 }
+demo_shape = plain_shape [] 1 1
 
 -- the number is one of the sizes that there are
 pub record IsSize (n : ℕ) : Type 0 where

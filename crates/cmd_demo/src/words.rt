@@ -15,17 +15,8 @@ use torx_words::{Form, WordsError, read_words};
 pub(crate) fn read_size(alloc: Global, words: &[String]) -> Result<Option<Size>, WordsError>
     ensures { IsAsked (asked demo_shape demo_of (map string_bytes words.now)) (option_map (λ (s : _). s.number)) result }
 {
-    let form = Form {
-        options: &[],
-        required: &[],
-        clashes: &[],
-        least: 1,
-        most: 1,
-    };
-    match read_words(alloc, &form, words) {
-        Ok(given) => Ok(size_of(given.required_file(0))),
-        Err(error) => Err(error),
-    }
+    let given = read_words(alloc, &Form::plain(&[], 1, 1), words)?;
+    Ok(size_of(given.required_file(0)))
 }
 
 /// The size of which the word is the number.

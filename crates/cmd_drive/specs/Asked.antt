@@ -7,7 +7,7 @@ use Rattle.torx_words.specs.Accepted.{Shape}
 use Rattle.torx_words.specs.Form.{Reading, value_of}
 use Rattle.torx_words.specs.Meaning.{AskedSorting, sorting_of, mode_of, divergence_of, number_of, file_at}
 use Rattle.torx_words.specs.Named.{sorting_from}
-use Rattle.torx_words.specs.declared.form.ValueKind.TheVariants.{Flag, Marks, Divergence as HowDivergent, Name, Number}
+use Rattle.torx_words.specs.Options.{marks_option, inputs_option, divergence_option, uioco_option, name_option, number_option}
 use Rattle.tool_base.specs.Sources.{Sources}
 use Rattle.cmd_drive.specs.declared.limits.TheConstants.{MOST_SESSION_MEMBERS, MOST_TICK, USUAL_PATIENCE, USUAL_SESSION_MEMBERS, USUAL_STEPS, USUAL_TICK}
 use Rattle.cmd_drive.specs.declared.words.Guidance.{Guidance}
@@ -47,12 +47,10 @@ pub record AskedDrive : Type 0 where
 -- the options, a file and an address
 abbrev pub drive_shape : Shape
 drive_shape = record {
-  options = record { name = codes "marks"; kind = Marks } ∷ record { name = codes "inputs"; kind = Name } ∷
-      record { name = codes "divergence"; kind = HowDivergent } ∷ record { name = codes "uioco"; kind = Flag } ∷
-      record { name = codes "members"; kind = Number 1 MOST_SESSION_MEMBERS } ∷ record { name = codes "seed"; kind = Number 0 (2 ^ 64 - 1) } ∷
-      record { name = codes "script"; kind = Name } ∷ record { name = codes "goal"; kind = Name } ∷
-      record { name = codes "steps"; kind = Number 1 MOST_STEPS } ∷ record { name = codes "patience"; kind = Number 1 MOST_PATIENCE } ∷
-      record { name = codes "tick"; kind = Number 1 MOST_TICK } ∷ [];
+  options = marks_option ∷ inputs_option ∷ divergence_option ∷ uioco_option ∷
+      number_option (codes "members") 1 MOST_SESSION_MEMBERS ∷ number_option (codes "seed") 0 (2 ^ 64 - 1) ∷
+      name_option (codes "script") ∷ name_option (codes "goal") ∷ number_option (codes "steps") 1 MOST_STEPS ∷
+      number_option (codes "patience") 1 MOST_PATIENCE ∷ number_option (codes "tick") 1 MOST_TICK ∷ [];
   required = [];
   clashes = (codes "seed", codes "script") ∷ (codes "seed", codes "goal") ∷ (codes "script", codes "goal") ∷ [];
   least = 2;

@@ -7,7 +7,7 @@ use Rattle.torx_words.specs.Accepted.{Shape}
 use Rattle.torx_words.specs.Form.{Reading}
 use Rattle.torx_words.specs.Meaning.{AskedSorting, sorting_of, mode_of, divergence_of, number_of, file_at}
 use Rattle.torx_words.specs.Named.{sorting_from}
-use Rattle.torx_words.specs.declared.form.ValueKind.TheVariants.{Flag, Marks, Divergence as HowDivergent, Name, Number}
+use Rattle.torx_words.specs.Options.{marks_option, inputs_option, divergence_option, uioco_option, number_option, plain_shape}
 use Rattle.tool_base.specs.Sources.{Sources}
 use Rattle.cmd_drive.specs.declared.limits.TheConstants.{MOST_SESSION_MEMBERS, USUAL_PATIENCE, USUAL_SESSION_MEMBERS, USUAL_STEPS}
 use Rattle.cmd_drive.specs.declared.rehearse_words.Rehearse.{Rehearse}
@@ -28,16 +28,9 @@ pub record AskedRehearse : Type 0 where
 
 -- the options and two files
 abbrev pub rehearse_shape : Shape
-rehearse_shape = record {
-  options = record { name = codes "marks"; kind = Marks } ∷ record { name = codes "inputs"; kind = Name } ∷
-      record { name = codes "divergence"; kind = HowDivergent } ∷ record { name = codes "uioco"; kind = Flag } ∷
-      record { name = codes "members"; kind = Number 1 MOST_SESSION_MEMBERS } ∷ record { name = codes "seed"; kind = Number 0 (2 ^ 64 - 1) } ∷
-      record { name = codes "steps"; kind = Number 1 MOST_STEPS } ∷ record { name = codes "patience"; kind = Number 1 MOST_PATIENCE } ∷ [];
-  required = [];
-  clashes = [];
-  least = 2;
-  most = 2;
-}
+rehearse_shape = plain_shape (marks_option ∷ inputs_option ∷ divergence_option ∷ uioco_option ∷
+    number_option (codes "members") 1 MOST_SESSION_MEMBERS ∷ number_option (codes "seed") 0 (2 ^ 64 - 1) ∷
+    number_option (codes "steps") 1 MOST_STEPS ∷ number_option (codes "patience") 1 MOST_PATIENCE ∷ []) 2 2
 
 -- what a reading of the words asks for: the specification is the first file, the implementation the second
 abbrev pub rehearse_of : Reading → AskedRehearse

@@ -8,54 +8,21 @@ use crate::limits::{MOST_SESSION_MEMBERS, USUAL_PATIENCE, USUAL_SESSION_MEMBERS,
 use log_text::limits::{MOST_PATIENCE, MOST_STEPS};
 use lts_base::{Divergence, Mode};
 use std::alloc::Global;
-use torx_words::{Form, Given, NamedOption, Sorting, ValueKind, WordsError, read_words};
+use torx_words::{
+    DIVERGENCE, Form, Given, INPUTS, MARKS, NamedOption, Sorting, UIOCO, WordsError, number_option,
+    read_words,
+};
 
 /// The options of `rehearse`.
 static OPTIONS: [NamedOption<'static>; 8] = [
-    NamedOption {
-        name: "marks",
-        kind: ValueKind::Marks,
-    },
-    NamedOption {
-        name: "inputs",
-        kind: ValueKind::Name,
-    },
-    NamedOption {
-        name: "divergence",
-        kind: ValueKind::Divergence,
-    },
-    NamedOption {
-        name: "uioco",
-        kind: ValueKind::Flag,
-    },
-    NamedOption {
-        name: "members",
-        kind: ValueKind::Number {
-            least: 1,
-            most: MOST_SESSION_MEMBERS,
-        },
-    },
-    NamedOption {
-        name: "seed",
-        kind: ValueKind::Number {
-            least: 0,
-            most: u64::MAX,
-        },
-    },
-    NamedOption {
-        name: "steps",
-        kind: ValueKind::Number {
-            least: 1,
-            most: MOST_STEPS as u64,
-        },
-    },
-    NamedOption {
-        name: "patience",
-        kind: ValueKind::Number {
-            least: 1,
-            most: MOST_PATIENCE as u64,
-        },
-    },
+    MARKS,
+    INPUTS,
+    DIVERGENCE,
+    UIOCO,
+    number_option!("members", 1, MOST_SESSION_MEMBERS),
+    number_option!("seed", 0, u64::MAX),
+    number_option!("steps", 1, MOST_STEPS as u64),
+    number_option!("patience", 1, MOST_PATIENCE as u64),
 ];
 
 /// What `rehearse` is asked for.
@@ -86,17 +53,8 @@ pub fn read_rehearse<'a>(alloc: Global, words: &'a [String]) -> Result<Rehearse<
     ensures asked { IsAsked (asked rehearse_shape rehearse_of (map string_bytes words.entry.now)) rehearse_from result }
     ensures range { IfOk result (λ q. IsRehearseInRange (rehearse_from q)) }
 {
-    let form = Form {
-        options: &OPTIONS,
-        required: &[],
-        clashes: &[],
-        least: 2,
-        most: 2,
-    };
-    match read_words(alloc, &form, words) {
-        Ok(given) => Ok(rehearse_given(&given)),
-        Err(error) => Err(error),
-    }
+    let given = read_words(alloc, &Form::plain(&OPTIONS, 2, 2), words)?;
+    Ok(rehearse_given(&given))
 }
 
 fn rehearse_given<'a>(given: &Given<'a>) -> Rehearse<'a>

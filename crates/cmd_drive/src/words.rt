@@ -10,69 +10,24 @@ use crate::limits::{
 use log_text::limits::{MOST_PATIENCE, MOST_STEPS};
 use lts_base::{Divergence, Mode};
 use std::alloc::Global;
-use torx_words::{Form, Given, NamedOption, Sorting, ValueKind, WordsError, read_words};
+use torx_words::{
+    DIVERGENCE, Form, Given, INPUTS, MARKS, NamedOption, Sorting, UIOCO, WordsError, name_option,
+    number_option, read_words,
+};
 
 /// The options of `drive`.
 static OPTIONS: [NamedOption<'static>; 11] = [
-    NamedOption {
-        name: "marks",
-        kind: ValueKind::Marks,
-    },
-    NamedOption {
-        name: "inputs",
-        kind: ValueKind::Name,
-    },
-    NamedOption {
-        name: "divergence",
-        kind: ValueKind::Divergence,
-    },
-    NamedOption {
-        name: "uioco",
-        kind: ValueKind::Flag,
-    },
-    NamedOption {
-        name: "members",
-        kind: ValueKind::Number {
-            least: 1,
-            most: MOST_SESSION_MEMBERS,
-        },
-    },
-    NamedOption {
-        name: "seed",
-        kind: ValueKind::Number {
-            least: 0,
-            most: u64::MAX,
-        },
-    },
-    NamedOption {
-        name: "script",
-        kind: ValueKind::Name,
-    },
-    NamedOption {
-        name: "goal",
-        kind: ValueKind::Name,
-    },
-    NamedOption {
-        name: "steps",
-        kind: ValueKind::Number {
-            least: 1,
-            most: MOST_STEPS as u64,
-        },
-    },
-    NamedOption {
-        name: "patience",
-        kind: ValueKind::Number {
-            least: 1,
-            most: MOST_PATIENCE as u64,
-        },
-    },
-    NamedOption {
-        name: "tick",
-        kind: ValueKind::Number {
-            least: 1,
-            most: MOST_TICK as u64,
-        },
-    },
+    MARKS,
+    INPUTS,
+    DIVERGENCE,
+    UIOCO,
+    number_option!("members", 1, MOST_SESSION_MEMBERS),
+    number_option!("seed", 0, u64::MAX),
+    name_option!("script"),
+    name_option!("goal"),
+    number_option!("steps", 1, MOST_STEPS as u64),
+    number_option!("patience", 1, MOST_PATIENCE as u64),
+    number_option!("tick", 1, MOST_TICK as u64),
 ];
 
 /// The options of which no two may stand together.
@@ -130,10 +85,8 @@ pub fn read_drive<'a>(alloc: Global, words: &'a [String]) -> Result<Drive<'a>, W
         least: 2,
         most: 2,
     };
-    match read_words(alloc, &form, words) {
-        Ok(given) => Ok(drive_given(&given)),
-        Err(error) => Err(error),
-    }
+    let given = read_words(alloc, &form, words)?;
+    Ok(drive_given(&given))
 }
 
 fn drive_given<'a>(given: &Given<'a>) -> Drive<'a>

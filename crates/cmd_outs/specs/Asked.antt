@@ -1,5 +1,5 @@
 -- Promise: what the words after `outs` ask for.
-use Rattle.std.specs.Prelude.{ℕ, List, [], ◌∷◌, codes, Option, Some, None, option_map}
+use Rattle.std.specs.Prelude.{ℕ, List, [], ◌∷◌, Option, Some, None, option_map}
 use Rattle.std.specs.List.{slice_get}
 use Rattle.lts_base.specs.declared.divergence.Divergence.{Divergence}
 use Rattle.lts_base.specs.declared.item.Mode.{Mode}
@@ -7,7 +7,7 @@ use Rattle.torx_words.specs.Accepted.{Shape}
 use Rattle.torx_words.specs.Form.{Reading}
 use Rattle.torx_words.specs.Meaning.{AskedSorting, sorting_of, mode_of, divergence_of, file_at}
 use Rattle.torx_words.specs.Named.{sorting_from}
-use Rattle.torx_words.specs.declared.form.ValueKind.TheVariants.{Flag, Marks, Divergence as HowDivergent, Name}
+use Rattle.torx_words.specs.Options.{marks_option, inputs_option, divergence_option, uioco_option, plain_shape}
 use Rattle.tool_base.specs.Sources.{Sources}
 use Rattle.cmd_outs.specs.declared.words.Request.{Request}
 
@@ -22,14 +22,7 @@ pub record AskedOuts : Type 0 where
 
 -- the options, and one file or two
 abbrev pub outs_shape : Shape
-outs_shape = record {
-  options = record { name = codes "marks"; kind = Marks } ∷ record { name = codes "inputs"; kind = Name } ∷
-      record { name = codes "divergence"; kind = HowDivergent } ∷ record { name = codes "uioco"; kind = Flag } ∷ [];
-  required = [];
-  clashes = [];
-  least = 1;
-  most = 2;
-}
+outs_shape = plain_shape (marks_option ∷ inputs_option ∷ divergence_option ∷ uioco_option ∷ []) 1 2
 
 -- what a reading of the words asks for: the system is in the first file, the trace in the second
 abbrev pub outs_of : Reading → AskedOuts

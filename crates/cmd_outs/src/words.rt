@@ -5,27 +5,12 @@ ghost use Rattle.cmd_outs.specs.Asked.{outs_of, outs_shape, request_from};
 
 use lts_base::{Divergence, Mode};
 use std::alloc::Global;
-use torx_words::{Form, Given, NamedOption, Sorting, ValueKind, WordsError, read_words};
+use torx_words::{
+    DIVERGENCE, Form, Given, INPUTS, MARKS, NamedOption, Sorting, UIOCO, WordsError, read_words,
+};
 
 /// The options of `outs`.
-static OPTIONS: [NamedOption<'static>; 4] = [
-    NamedOption {
-        name: "marks",
-        kind: ValueKind::Marks,
-    },
-    NamedOption {
-        name: "inputs",
-        kind: ValueKind::Name,
-    },
-    NamedOption {
-        name: "divergence",
-        kind: ValueKind::Divergence,
-    },
-    NamedOption {
-        name: "uioco",
-        kind: ValueKind::Flag,
-    },
-];
+static OPTIONS: [NamedOption<'static>; 4] = [MARKS, INPUTS, DIVERGENCE, UIOCO];
 
 /// What the words ask for.
 #[derive(Clone, Copy, Debug)]
@@ -49,17 +34,8 @@ pub(crate) fn read_request<'a>(
 ) -> Result<Request<'a>, WordsError>
     ensures { IsAsked (asked outs_shape outs_of (map string_bytes words.entry.now)) request_from result }
 {
-    let form = Form {
-        options: &OPTIONS,
-        required: &[],
-        clashes: &[],
-        least: 1,
-        most: 2,
-    };
-    match read_words(alloc, &form, words) {
-        Ok(given) => Ok(request_of(&given)),
-        Err(error) => Err(error),
-    }
+    let given = read_words(alloc, &Form::plain(&OPTIONS, 1, 2), words)?;
+    Ok(request_of(&given))
 }
 
 fn request_of<'a>(given: &Given<'a>) -> Request<'a>

@@ -1,11 +1,11 @@
 -- Promise: what the words after `replay` and after `migrate` ask for.
-use Rattle.std.specs.Prelude.{ℕ, List, [], ◌∷◌, codes}
+use Rattle.std.specs.Prelude.{ℕ, List, [], ◌∷◌}
 use Rattle.lts_base.specs.declared.divergence.Divergence.{Divergence}
 use Rattle.torx_words.specs.Accepted.{Shape}
 use Rattle.torx_words.specs.Form.{Reading}
 use Rattle.torx_words.specs.Meaning.{AskedSorting, sorting_of, divergence_of, file_at}
 use Rattle.torx_words.specs.Named.{sorting_from}
-use Rattle.torx_words.specs.declared.form.ValueKind.TheVariants.{Marks, Divergence as HowDivergent, Name}
+use Rattle.torx_words.specs.Options.{marks_option, inputs_option, divergence_option, plain_shape}
 use Rattle.tool_base.specs.Sources.{Sources}
 use Rattle.cmd_replay.specs.declared.words.Request.{Request}
 
@@ -18,13 +18,7 @@ pub record AskedReplay : Type 0 where
 
 -- the options, and two files
 abbrev pub replay_shape : Shape
-replay_shape = record {
-  options = record { name = codes "marks"; kind = Marks } ∷ record { name = codes "inputs"; kind = Name } ∷ record { name = codes "divergence"; kind = HowDivergent } ∷ [];
-  required = [];
-  clashes = [];
-  least = 2;
-  most = 2;
-}
+replay_shape = plain_shape (marks_option ∷ inputs_option ∷ divergence_option ∷ []) 2 2
 
 -- what a reading of the words asks for: the specification is in the first file, the logs in the second
 abbrev pub replay_of : Reading → AskedReplay

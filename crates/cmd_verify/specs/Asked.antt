@@ -1,11 +1,11 @@
 -- Promise: what the words after `verify` ask for.
-use Rattle.std.specs.Prelude.{ℕ, List, [], ◌∷◌, codes}
+use Rattle.std.specs.Prelude.{ℕ, List, [], ◌∷◌}
 use Rattle.lts_base.specs.declared.divergence.Divergence.{Divergence}
 use Rattle.torx_words.specs.Accepted.{Shape}
 use Rattle.torx_words.specs.Form.{Reading}
 use Rattle.torx_words.specs.Meaning.{AskedSorting, sorting_of, divergence_of, file_at}
 use Rattle.torx_words.specs.Named.{sorting_from}
-use Rattle.torx_words.specs.declared.form.ValueKind.TheVariants.{Marks, Divergence as HowDivergent, Name}
+use Rattle.torx_words.specs.Options.{marks_option, inputs_option, divergence_option, plain_shape}
 use Rattle.tool_base.specs.Sources.{Sources}
 use Rattle.cmd_verify.specs.declared.words.Request.{Request}
 
@@ -20,14 +20,7 @@ pub record AskedVerify : Type 0 where
 
 -- the options, and three files
 abbrev pub verify_shape : Shape
-verify_shape = record {
-  options = record { name = codes "marks"; kind = Marks } ∷ record { name = codes "inputs"; kind = Name } ∷
-      record { name = codes "divergence"; kind = HowDivergent } ∷ [];
-  required = [];
-  clashes = [];
-  least = 3;
-  most = 3;
-}
+verify_shape = plain_shape (marks_option ∷ inputs_option ∷ divergence_option ∷ []) 3 3
 
 -- what a reading of the words asks for
 abbrev pub verify_of : Reading → AskedVerify

@@ -5,23 +5,12 @@ ghost use Rattle.cmd_verify.specs.Asked.{request_from, verify_of, verify_shape};
 
 use lts_base::Divergence;
 use std::alloc::Global;
-use torx_words::{Form, Given, NamedOption, Sorting, ValueKind, WordsError, read_words};
+use torx_words::{
+    DIVERGENCE, Form, Given, INPUTS, MARKS, NamedOption, Sorting, WordsError, read_words,
+};
 
 /// The options of `verify`.
-static OPTIONS: [NamedOption<'static>; 3] = [
-    NamedOption {
-        name: "marks",
-        kind: ValueKind::Marks,
-    },
-    NamedOption {
-        name: "inputs",
-        kind: ValueKind::Name,
-    },
-    NamedOption {
-        name: "divergence",
-        kind: ValueKind::Divergence,
-    },
-];
+static OPTIONS: [NamedOption<'static>; 3] = [MARKS, INPUTS, DIVERGENCE];
 
 /// What the words ask for.
 #[derive(Clone, Copy, Debug)]
@@ -45,17 +34,8 @@ pub(crate) fn read_request<'a>(
 ) -> Result<Request<'a>, WordsError>
     ensures { IsAsked (asked verify_shape verify_of (map string_bytes words.entry.now)) request_from result }
 {
-    let form = Form {
-        options: &OPTIONS,
-        required: &[],
-        clashes: &[],
-        least: 3,
-        most: 3,
-    };
-    match read_words(alloc, &form, words) {
-        Ok(given) => Ok(request_of(&given)),
-        Err(error) => Err(error),
-    }
+    let given = read_words(alloc, &Form::plain(&OPTIONS, 3, 3), words)?;
+    Ok(request_of(&given))
 }
 
 fn request_of<'a>(given: &Given<'a>) -> Request<'a>

@@ -4,15 +4,15 @@ use Rattle.std.specs.List.{find, position_or_len}
 use Rattle.std.specs.Prelude.{is_some, is_none}
 use Rattle.std.specs.Str.{bytes_eq}
 use Rattle.std.proofs.lemmas.Bool.{lt-ltb, eqb-true}
-use Rattle.std.proofs.lemmas.List.{length-append, length-map, length_push, append-nil, get_or_append_left}
+use Rattle.std.proofs.lemmas.List.{length-append, length-map, length_push, append-nil, get_or_append_left, get_or-map}
 use Rattle.std.proofs.lemmas.List.Elements.{All-head, All-tail}
 use Rattle.std.proofs.lemmas.List.Quantifiers.{position-Some}
 use Rattle.std.proofs.lemmas.List.Sums.{position_or_len_is}
+use Rattle.std.proofs.lemmas.Option.{slice_get_within, get_or_from_slice_get}
 use Rattle.std.proofs.lemmas.Slice.Eq.{bytes_eq-Decides}
 use Rattle.lts_base.specs.Alphabet.{text_at}
 use Rattle.aut_text.specs.Parts.{Parts, NamedMove, named_moves, AddsMove}
 use Rattle.aut_text.specs.Reading.{IsWithin}
-use Rattle.aut_text.proofs.LabelLaws.{key_at}
 use Rattle.graphml_text.specs.declared.edge.NamedEdge.{NamedEdge as HeldEdge}
 use Rattle.graphml_text.specs.declared.moves.Ends.{Ends}
 use Rattle.graphml_text.specs.declared.places.Places.{Places}
@@ -57,6 +57,12 @@ near_more ids more None is = tt
 near_more ids more (Some k) is =
     let below : k < length ids = place_within ids (text_at ids k) k is in
     rw (get_or_append_left ids more [] k below) (place_more ids more (text_at ids k) k is)
+
+-- the key at a place has the text at that place
+key_at : {K : Type 0} (f : K → List ℕ) (text : List ℕ) (ks : List K) (i : ℕ) (k : K) → Some k ≡ slice_get ks i → f k ≡ text → (i < length (map f ks)) × (text_at (map f ks) i ≡ text)
+key_at f text ks i k found same =
+    let below : i < length ks = slice_get_within ks i k (sym found) in
+    (rw length-map below, get_or-map f ks i k [] below ∙ ap f (get_or_from_slice_get ks i k k (sym found)) ∙ same)
 
 -- the key at the near place tells the place of its text
 pub near_key : {K : Type 0} (f : K → List ℕ) (ks : List K) (k : ℕ) (key : K) (id : List ℕ) → place_of (map f ks) (text_at (map f ks) k) ≡ Some k → Some key ≡ slice_get ks k → bytes_eq (f key) id ≡ true → Some k ≡ place_of (map f ks) id

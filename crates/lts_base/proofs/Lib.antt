@@ -21,3 +21,5 @@ pub mod NextLaws
 pub mod SplitOnce
 pub mod RestLaws
 pub mod SortedMovesLaws
+pub mod MarkLaws
+pub mod FindLaws

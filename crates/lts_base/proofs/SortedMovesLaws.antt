@@ -4,7 +4,7 @@ use Rattle.std.specs.List.Sorted.{IsPermutation}
 use Rattle.std.proofs.lemmas.List.{append_assoc, append-nil, map-append, take_more}
 use Rattle.std.proofs.lemmas.List.Sorted.{IsPermutation-refl, IsPermutation-trans, IsPermutation-map, IsPermutation-append_left, IsPermutation-append_right, IsPermutation-append_comm}
 use Rattle.lts_base.specs.declared.action.Move.{Move}
-use Rattle.lts_base.specs.SortedMoves.{move_of}
+use Rattle.lts_base.specs.MoveNumber.{move_of}
 use Rattle.lts_base.proofs.SortingLaws.{take_all}
 
 -- sorted numbers stand for the same moves

@@ -31,6 +31,10 @@ pub record IsFirstFault (states n : ℕ) (moves : List Move) (k : ℕ) (e : LtsE
   pub below : k < length moves
   pub fault : IsFaultOf states n (move_at moves k) k e
 
+-- some move is at fault, and it is the first one
+abbrev pub HasFirstFault : ℕ → ℕ → List Move → LtsError → Type 0
+HasFirstFault states n moves e = (k : ℕ) × IsFirstFault states n moves k e
+
 -- why the parts make no system: there is no state; the start is no state; the first move at fault
 abbrev pub RefusesParts : ℕ → ℕ → ℕ → List Move → LtsError → Type 0
 RefusesParts states start n moves NoState = states ≡ 0
@@ -61,6 +65,17 @@ pub record AreOffsets (states : ℕ) (moves : List Move) (offsets : List ℕ) : 
 abbrev pub AreFlagsFor : Divergence → System → List Bool → Type 0
 AreFlagsFor Refuse s flags = flags ≡ []
 AreFlagsFor Quiet s flags = AreCycleFlags s flags
+
+-- the system of these parts
+abbrev pub system_of : ℕ → ℕ → ℕ → ℕ → Divergence → List Move → System
+system_of states start inputs outputs divergence moves = record {
+  states = states;
+  start = start;
+  inputs = inputs;
+  outputs = outputs;
+  divergence = divergence;
+  moves = moves;
+}
 
 -- how a system is kept: it is sound, its moves stand by state, and these are their offsets and the flags of its states
 pub record IsLaidOut (s : System) (places : List ℕ) (marks : List Bool) : Type 0 where

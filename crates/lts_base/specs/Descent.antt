@@ -22,17 +22,22 @@ pub record IsDone (places : List (Option ℕ)) (path : List ℕ) (p : ℕ) : Typ
 abbrev pub IsAhead : List Block → ℕ → ℕ → Type 0
 IsAhead blocks i k = (b : Block) → Contains blocks b → b.start ≤ i → b.start ≤ k
 
+-- number t of what is to be looked at isn't in a block before that of the place i
+abbrev pub IsLater : List Block → ℕ → ℕ → Type 0
+IsLater blocks i t = (b : Block) → Contains blocks b → b.start ≤ i → b.base ≤ t
+
 -- the state q, which a move with Tau leads to from the place i, is done, or stands on the path in no earlier block and
 -- has a flag where it is the same place, or is still to be looked at, in no earlier block
 abbrev pub IsFollowed : List (Option ℕ) → List ℕ → List Block → List ℕ → List Bool → ℕ → ℕ → Type 0
 IsFollowed places path blocks pending flags i q =
     IsDone places path q
     ⊎ (((k : ℕ) × IsAt places path q k × IsAhead blocks i k × (k ≡ i → get_or flags q false ≡ true))
-    ⊎ ((t : ℕ) × (t < length pending) × (get_or pending t 0 ≡ q) × ((b : Block) → Contains blocks b → b.start ≤ i → b.base ≤ t)))
+    ⊎ ((t : ℕ) × (t < length pending) × (get_or pending t 0 ≡ q) × IsLater blocks i t))
 
 -- a move with Tau leads to q from the place i, whose block is that of the place t of what is to be looked at
 abbrev pub IsSource : System → List ℕ → List Block → ℕ → ℕ → ℕ → Type 0
-IsSource s path blocks t q i = (i < length path) × HasMove s (get_or path i 0) Tau q × ((b : Block) → Contains blocks b → b.base ≤ t → b.start ≤ i) × ((b : Block) → Contains blocks b → b.start ≤ i → b.base ≤ t)
+IsSource s path blocks t q i =
+    (i < length path) × HasMove s (get_or path i 0) Tau q × ((b : Block) → Contains blocks b → b.base ≤ t → b.start ≤ i) × IsLater blocks i t
 
 -- what stands of the descent. Moves with Tau lead from each place of the path to each place of its block and of later
 -- blocks. The states that are done lead to such alone, and have the right flags
@@ -49,7 +54,8 @@ pub record IsStanding (s : System) (places : List (Option ℕ)) (path : List ℕ
   pub complete : (p : ℕ) → IsDone places path p → IsOnTauCycle s p → get_or flags p false ≡ true
 
 -- how far the descent is: each move with Tau from the path has been followed or is to be, but for those that are open
-pub record IsDescent (s : System) (open_at : ℕ → ℕ → Type 0) (places : List (Option ℕ)) (path : List ℕ) (blocks : List Block) (pending : List ℕ) (flags : List Bool) : Type 0 where
+pub record IsDescent (s : System) (open_at : ℕ → ℕ → Type 0) (places : List (Option ℕ)) (path : List ℕ)
+    (blocks : List Block) (pending : List ℕ) (flags : List Bool) : Type 0 where
   pub standing : IsStanding s places path blocks flags
   pub pending_within : All (λ p. p < s.states) pending
   pub within : All (λ (b : Block). (b.start ≤ length path) × (b.base ≤ length pending)) blocks
@@ -91,7 +97,8 @@ Stands s open_at d = IsDescent s open_at d.places.items d.path.items d.blocks.it
 
 -- the descent has come to none of the n states
 abbrev pub IsFreshDescent : ℕ → Descent → Type 0
-IsFreshDescent n d = (d.places.items ≡ replicate n None) × (d.path.items ≡ []) × (d.blocks.items ≡ []) × (d.pending.items ≡ []) × (d.flags.items ≡ replicate n false)
+IsFreshDescent n d =
+    (d.places.items ≡ replicate n None) × (d.path.items ≡ []) × (d.blocks.items ≡ []) × (d.pending.items ≡ []) × (d.flags.items ≡ replicate n false)
 
 -- nothing is left to be looked at
 abbrev pub IsOver : System → Descent → Type 0

@@ -15,5 +15,5 @@ pub mod Sorting
 pub mod Numbered
 pub mod Packed
 pub mod Descent
-pub mod SortedMoves
-pub mod RawPacked
+pub mod MoveNumber
+pub mod Finds

@@ -11,6 +11,7 @@ pub mod labels;
 pub mod limits;
 pub mod list;
 pub mod memory;
+mod move_number;
 mod ordering;
 pub mod packed;
 pub mod raw;

@@ -1,7 +1,7 @@
 //! A system as a file holds it: its labels are texts that no rule has sorted yet.
 ghost use Rattle.std.specs.Prelude.{◌≡◌, ℕ, ◌^◌, ◌<◌, length, map, take, All, IfOk, IfErr, MatchResult};
 ghost use Rattle.lts_base.specs.System.{IsMoveOf};
-ghost use Rattle.lts_base.specs.Built.{RefusesParts, IsFirstFault};
+ghost use Rattle.lts_base.specs.Built.{RefusesParts, HasFirstFault};
 ghost use Rattle.lts_base.specs.Raw.{RawSystem, IsRaw, AreLabelsOf, as_move};
 
 use crate::action::{Act, Move};
@@ -24,6 +24,7 @@ pub struct RawMove {
 
 impl RawMove {
     /// The move with the label's place in the file's list as its number.
+    #[inline(always)]
     pub fn as_move(&self) -> Move
         ensures { result ≡ as_move self.now }
     {
@@ -117,7 +118,7 @@ impl RawLts {
 
 fn test_raw_moves(states: u32, labels: u32, moves: &RawMoves) -> Result<(), LtsError>
     requires { length moves.now < 2 ^ 32 }
-    ensures { MatchResult result (λ _. All (IsMoveOf states labels) (map as_move moves.now)) (λ e. (k : ℕ) × IsFirstFault states labels (map as_move moves.now) k e) }
+    ensures { MatchResult result (λ _. All (IsMoveOf states labels) (map as_move moves.now)) (HasFirstFault states labels (map as_move moves.now)) }
 {
     for place in 0..moves.count() {
         test_move(states, labels, place as u32, moves.at(place).as_move())?;

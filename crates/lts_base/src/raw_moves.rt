@@ -1,18 +1,12 @@
 //! The moves of a file, in eight bytes each where the numbers allow it.
-ghost use Rattle.std.specs.Prelude.{◌≡◌, ◌<◌, ◌-◌, [], ◌∷◌, ◌++◌, length, take, IfSome, OnOk, OnErr};
+ghost use Rattle.std.specs.Prelude.{◌≡◌, ◌<◌, ◌-◌, [], ◌∷◌, ◌++◌, length, take, OnOk, OnErr};
 ghost use Rattle.lts_base.specs.Raw.{raw_move_at};
-ghost use Rattle.lts_base.specs.RawPacked.{label_of, unpacked};
 
 use crate::memory::Memory;
+use crate::move_number::{pack, unpack};
 use crate::raw::RawMove;
 use std::alloc::Global;
 use std::marker::Model;
-
-/// The states of a move that is held as a number are below this.
-const STATES: u64 = 1_048_576;
-
-/// The codes of labels of a move that is held as a number are below this.
-const CODES: u64 = 16_777_216;
 
 /// Moves of a file, in the file's order. A move takes 8 bytes, as long as all moves before it and
 /// itself have states below 2^20 and labels below 2^24 - 1, and 16 bytes else.
@@ -27,7 +21,7 @@ pub struct RawMoves {
 impl Model for RawMoves {
     ghost use Rattle.std.specs.Prelude.{List, ◌++◌, map};
     ghost use Rattle.lts_base.specs.declared.raw.RawMove.{RawMove as Move};
-    ghost use Rattle.lts_base.specs.RawPacked.{unpacked};
+    ghost use Rattle.lts_base.specs.MoveNumber.{unpacked};
 
     ghost Value = { List Move };
 
@@ -88,49 +82,5 @@ impl RawMoves {
             return;
         }
         self.wide.pop();
-    }
-}
-
-/// The move that the number stands for.
-fn unpack(number: u64) -> RawMove
-    ensures { result ≡ unpacked number }
-{
-    let rest = number / STATES;
-    RawMove {
-        from: (rest / CODES) as u32,
-        label: label_of(rest % CODES),
-        to: (number % STATES) as u32,
-    }
-}
-
-fn label_of(code: u64) -> Option<u32>
-    requires { code < CODES }
-    ensures { result ≡ label_of code }
-{
-    if code == 0 {
-        return None;
-    }
-    Some((code - 1) as u32)
-}
-
-/// The number that stands for the move, where there is one.
-fn pack(m: RawMove) -> Option<u64>
-    ensures { IfSome result (λ n. unpacked n ≡ m) }
-{
-    let from = m.from as u64;
-    let to = m.to as u64;
-    let code = code_of(m.label);
-    if from < STATES && code < CODES && to < STATES {
-        return Some((from * CODES + code) * STATES + to);
-    }
-    None
-}
-
-fn code_of(label: Option<u32>) -> u64
-    ensures { label_of result ≡ label }
-{
-    match label {
-        None => 0,
-        Some(label) => label as u64 + 1,
     }
 }

@@ -1,19 +1,15 @@
 //! Moves that are sorted as numbers, which takes a fraction of the time that three fields take.
-ghost use Rattle.std.specs.Prelude.{◌≡◌, ◌<◌, [], ◌∷◌, ◌++◌, length, map, IfOk, IfSome, OnOk};
+ghost use Rattle.std.specs.Prelude.{◌≡◌, [], ◌∷◌, ◌++◌, length, map, IfOk, IfSome, OnOk};
 ghost use Rattle.std.specs.List.Sorted.{IsPermutation};
-ghost use Rattle.lts_base.specs.SortedMoves.{act_of, move_of};
+ghost use Rattle.lts_base.specs.MoveNumber.{move_of};
 
 use crate::action::{Act, Move};
 use crate::list::Listed;
+use crate::move_number::{pack, unpack};
+use crate::raw::RawMove;
 use crate::system::Moves;
 use std::alloc::{AllocError, Global};
 use std::marker::Model;
-
-/// The states of a move that has a number are below this.
-const STATES: u64 = 1_048_576;
-
-/// The codes of what is carried by a move that has a number are below this.
-const CODES: u64 = 16_777_216;
 
 /// The moves so far. Those that come in last are kept as numbers until they are sorted.
 #[derive(Drop)]
@@ -29,7 +25,7 @@ pub(crate) struct SortedMoves {
 impl Model for SortedMoves {
     ghost use Rattle.std.specs.Prelude.{List, ◌++◌, map};
     ghost use Rattle.lts_base.specs.declared.action.Move.{Move as Step};
-    ghost use Rattle.lts_base.specs.SortedMoves.{move_of};
+    ghost use Rattle.lts_base.specs.MoveNumber.{move_of};
 
     ghost Value = { List Step };
 
@@ -113,45 +109,25 @@ fn put_all(moves: &mut Vec<Move>, keys: &[u64]) -> Result<(), AllocError>
 }
 
 /// The move that the number stands for.
+#[inline(always)]
 fn move_of(key: u64) -> Move
     ensures { result ≡ move_of key }
 {
-    let rest = key / STATES;
-    Move {
-        from: (rest / CODES) as u32,
-        act: act_of(rest % CODES),
-        to: (key % STATES) as u32,
-    }
-}
-
-fn act_of(code: u64) -> Act
-    requires { code < CODES }
-    ensures { result ≡ act_of code }
-{
-    if code == 0 {
-        return Act::Tau;
-    }
-    Act::Label((code - 1) as u32)
+    unpack(key).as_move()
 }
 
 /// The number of the move, where it has one.
+#[inline(always)]
 fn key_of(m: Move) -> Option<u64>
     ensures { IfSome result (λ key. move_of key ≡ m) }
 {
-    let from = m.from as u64;
-    let to = m.to as u64;
-    let code = code_of(m.act);
-    if from < STATES && code < CODES && to < STATES {
-        return Some((from * CODES + code) * STATES + to);
-    }
-    None
-}
-
-fn code_of(act: Act) -> u64
-    ensures { act_of result ≡ act }
-{
-    match act {
-        Act::Tau => 0,
-        Act::Label(label) => label as u64 + 1,
-    }
+    let label = match m.act {
+        Act::Tau => None,
+        Act::Label(label) => Some(label),
+    };
+    pack(RawMove {
+        from: m.from,
+        label,
+        to: m.to,
+    })
 }

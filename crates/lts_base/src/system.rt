@@ -2,7 +2,7 @@
 ghost use Rattle.std.specs.Prelude.{◌≡◌, ◌↔◌, ℕ, ◌+◌, ◌-◌, ◌^◌, ◌<◌, ◌≤◌, List, length, filter, All, IsTrue, IfOk, IfErr, MatchResult};
 ghost use Rattle.std.specs.List.Sorted.{IsPermutation, IsPartitionPoint};
 ghost use Rattle.lts_base.specs.System.{System, IsSystem, IsActOf, IsMoveOf, IsStable, GivesNoOutput, IsQuiet, IsOnQuietCycle, AreMovesOf, leaves, quieted};
-ghost use Rattle.lts_base.specs.Built.{RefusesParts, IsBuiltOf, IsFaultOf, IsFirstFault, AreByState, AreOffsets};
+ghost use Rattle.lts_base.specs.Built.{RefusesParts, IsBuiltOf, IsFaultOf, HasFirstFault, AreByState, AreOffsets};
 
 use crate::action::{Act, Move};
 use crate::cycles::cycle_flags;
@@ -74,13 +74,13 @@ pub struct Lts {
 
 impl Model for Lts {
     ghost use Rattle.lts_base.specs.System.{System};
-    ghost use Rattle.lts_base.specs.Built.{IsLaidOut};
+    ghost use Rattle.lts_base.specs.Built.{system_of, IsLaidOut};
 
     ghost Value = { System };
 
-    ghost view = { λ a. record { states = a.states; start = a.start; inputs = a.inputs; outputs = a.outputs; divergence = a.divergence; moves = a.moves.items } };
+    ghost view = { λ a. system_of a.states a.start a.inputs a.outputs a.divergence a.moves.items };
 
-    ghost invariant = { λ a. IsLaidOut (record { states = a.states; start = a.start; inputs = a.inputs; outputs = a.outputs; divergence = a.divergence; moves = a.moves.items }) a.offsets.items a.flags.items };
+    ghost invariant = { λ a. IsLaidOut (system_of a.states a.start a.inputs a.outputs a.divergence a.moves.items) a.offsets.items a.flags.items };
 }
 
 impl Lts {
@@ -251,7 +251,7 @@ fn test_act(labels: u32, index: u32, act: Act) -> Result<(), LtsError>
 
 fn test_moves(states: u32, labels: u32, moves: &[Move]) -> Result<(), LtsError>
     requires { length moves.now < 2 ^ 32 }
-    ensures { MatchResult result (λ _. All (IsMoveOf states labels) moves.now) (λ e. (k : ℕ) × IsFirstFault states labels moves.now k e) }
+    ensures { MatchResult result (λ _. All (IsMoveOf states labels) moves.now) (HasFirstFault states labels moves.now) }
 {
     for (index, m) in moves.iter().enumerate() {
         test_move(states, labels, index as u32, *m)?;

@@ -11,7 +11,7 @@ use Rattle.lts_base.specs.Path.{Leads}
 use Rattle.lts_base.specs.Shape.{IsConvergent}
 use Rattle.lts_base.proofs.Leads.{HasMove-from_parts, Leads-here, Leads-append, Leads-tau}
 use Rattle.lts_base.proofs.ListLaws.{Contains-none}
-use Rattle.state_sets.specs.Finds.{IsAdded}
+use Rattle.lts_base.specs.Finds.{IsAdded}
 use Rattle.lts_shape.specs.Cycle.{IsTauCycle, IsSource, AreSources, IsTrail, IsTurned}
 use Rattle.lts_shape.specs.Peel.{IsPeeled}
 

@@ -10,8 +10,8 @@ use Rattle.lts_base.specs.System.{System, HasMove, Takes, AreMovesOf}
 use Rattle.lts_base.specs.Path.{Step, Along, Rest, IsPath, item_of, trace_of}
 use Rattle.lts_base.proofs.Leads.{act_cases, HasMove-from_parts, Leads-here, Leads-append, Leads-tau, Ends-push, Ends-silent, IsSeen-along}
 use Rattle.lts_base.proofs.ListLaws.{none_contained}
-use Rattle.state_sets.specs.Finds.{IsAdded, Adds}
-use Rattle.state_sets.proofs.Reaching.{Contains-added}
+use Rattle.lts_base.specs.Finds.{IsAdded, Adds}
+use Rattle.lts_base.proofs.FindLaws.{Contains-added}
 use Rattle.lts_shape.specs.Marks.{AreMarks, AreMarksOf}
 use Rattle.lts_shape.specs.Inputs.{EndsSome, CanTake, AreTakers}
 

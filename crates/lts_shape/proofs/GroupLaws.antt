@@ -9,8 +9,8 @@ use Rattle.lts_base.specs.declared.action.Move.{Move}
 use Rattle.lts_base.specs.Built.{move_at}
 use Rattle.lts_base.specs.System.{System, IsSystem, IsMoveOf, IsActOf, label_count, HasMove, Takes}
 use Rattle.lts_base.proofs.Leads.{act_cases, HasMove-from_parts}
-use Rattle.state_sets.specs.Finds.{IsAdded, Adds}
-use Rattle.state_sets.proofs.Reaching.{Contains-added}
+use Rattle.lts_base.specs.Finds.{IsAdded, Adds}
+use Rattle.lts_base.proofs.FindLaws.{Contains-added}
 use Rattle.lts_shape.specs.Groups.{group_of, group_with, group_count, IsLatest, AreGroups, LeavesIn}
 use Rattle.lts_shape.proofs.FollowLaws.{IsAdding, IsAdding-none, IsAdding-add, Contains-more}
 

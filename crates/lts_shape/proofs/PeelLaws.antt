@@ -18,7 +18,7 @@ use Rattle.lts_base.specs.Path.{Step, Along, Rest, IsPath, item_of, trace_of}
 use Rattle.lts_base.specs.Shape.{IsConvergent}
 use Rattle.lts_base.proofs.Leads.{act_cases, HasMove-from_parts}
 use Rattle.lts_base.proofs.ListLaws.{Contains-first_cases, Contains-first, Contains-rest, Contains-none}
-use Rattle.state_sets.specs.Finds.{IsAdded}
+use Rattle.lts_base.specs.Finds.{IsAdded}
 use Rattle.lts_shape.specs.Peel.{is_into, is_among, is_left_into, AreCounts, AreZeros, IsPeeling, IsPeeled, IsFoundAtZero}
 
 count-cons : (f : Move → Bool) (m : Move) (ms : List Move) → count_by f (m ∷ ms) ≡ cond (f m) 1 0 + count_by f ms

@@ -6,7 +6,7 @@ use Rattle.lts_base.specs.declared.action.Act.TheVariants.{Tau, Label}
 use Rattle.lts_base.specs.declared.action.Move.{Move}
 use Rattle.lts_base.specs.System.{System, HasMove}
 use Rattle.lts_base.specs.Shape.{IsConvergent}
-use Rattle.state_sets.specs.Finds.{IsAdded}
+use Rattle.lts_base.specs.Finds.{IsAdded}
 
 -- the action is Tau
 abbrev pub is_tau : Act → Bool

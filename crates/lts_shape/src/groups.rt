@@ -2,7 +2,7 @@
 ghost use Rattle.std.specs.Prelude.{◌≡◌, ℕ, ◌+◌, ◌<◌, length, OnOk, IfOk};
 ghost use Rattle.lts_base.specs.declared.action.Act.TheVariants.{Tau};
 ghost use Rattle.lts_base.specs.System.{HasMove, Takes};
-ghost use Rattle.state_sets.specs.Finds.{Adds};
+ghost use Rattle.lts_base.specs.Finds.{Adds};
 ghost use Rattle.lts_shape.specs.Groups.{AreGroups, LeavesIn, group_count, group_of as group_number};
 
 use lts_base::{Act, Lts, Memory, Move};

@@ -2,7 +2,7 @@
 ghost use Rattle.std.specs.Prelude.{◌≡◌, ◌↔◌, ℕ, ◌<◌, None, Bool, true, false, length, OnOk, IfOk, MatchOption, slice_index_or as get_or};
 ghost use Rattle.lts_base.specs.System.{Takes};
 ghost use Rattle.lts_base.specs.Shape.{IsInputEnabled};
-ghost use Rattle.state_sets.specs.Finds.{Adds};
+ghost use Rattle.lts_base.specs.Finds.{Adds};
 ghost use Rattle.lts_shape.specs.Groups.{AreGroups};
 ghost use Rattle.lts_shape.specs.Marks.{AreMarksOf};
 ghost use Rattle.lts_shape.specs.Inputs.{EndsSome, CanTake, AllCanTake, IsLeastLacking, IsFirstMissing, AreTakers};

@@ -2,7 +2,7 @@
 ghost use Rattle.std.specs.Prelude.{◌≡◌, ℕ, ◌<◌, length, OnOk, IfOk};
 ghost use Rattle.lts_base.specs.declared.action.Act.{Act as TheAct};
 ghost use Rattle.lts_base.specs.System.{HasMove};
-ghost use Rattle.state_sets.specs.Finds.{Adds};
+ghost use Rattle.lts_base.specs.Finds.{Adds};
 ghost use Rattle.lts_shape.specs.Inputs.{EndsSome};
 ghost use Rattle.lts_shape.specs.Marks.{AreMarks, AreMarksOf};
 

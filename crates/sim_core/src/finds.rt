@@ -15,7 +15,7 @@ pub(crate) struct FoundStates {
 
 impl Model for FoundStates {
     ghost use Rattle.std.specs.Prelude.{◌≤◌, length, vec_capacity};
-    ghost use Rattle.state_sets.specs.Finds.{Finds, IsMarked};
+    ghost use Rattle.lts_base.specs.Finds.{Finds, IsMarked};
 
     ghost Value = { Finds };
 

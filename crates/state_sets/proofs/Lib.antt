@@ -1,4 +1,4 @@
-pub mod MarkLaws
+pub mod ReadLaws
 pub mod Reaching
 pub mod ActLaws
 pub mod OfferLaws

@@ -1,15 +1,14 @@
 -- Laws on the rows of bits of states and of lists of states.
-use Rattle.std.proofs.Common.{◌≡◌, ℕ, ◌+◌, ◌*◌, ◌/◌, ◌<◌, ◌≤◌, ◌⊎◌, ◌↔◌, List, [], ◌∷◌, ◌++◌, length, get_or, Contains, Bool, refl, sym, ◌∙◌, ap, inl, inr, arith}
-use Rattle.std.specs.Prelude.{IsTrue, All}
+use Rattle.std.proofs.Common.{◌≡◌, ℕ, ◌+◌, ◌*◌, ◌<◌, ◌≤◌, ◌⊎◌, ◌↔◌, List, [], ◌∷◌, ◌++◌, length, get_or, Contains, Bool, refl, sym, ◌∙◌, ap, inl, inr, arith}
+use Rattle.std.specs.Prelude.{IsTrue}
 use Rattle.std.proofs.lemmas.List.{length_push, get_or_push, get_or_append_left, get_or_default}
 use Rattle.std.proofs.lemmas.List.Elements.{All-contains, Contains-get_or}
 use Rattle.std.proofs.lemmas.Bool.{cases_lt}
-use Rattle.lts_base.specs.declared.action.Act.{Act}
 use Rattle.lts_base.specs.declared.action.Act.TheVariants.{Tau, Label}
 use Rattle.lts_base.specs.declared.action.Move.{Move}
 use Rattle.lts_base.specs.declared.item.Item.TheVariants.{Output, Delta}
-use Rattle.lts_base.specs.System.{System, IsSystem, IsMoveOf, IsActOf, IsItemOf, label_count, Takes, HasMove, IsQuiet, AreMovesOf}
-use Rattle.lts_base.specs.After.{Gives, Shows}
+use Rattle.lts_base.specs.System.{System, IsSystem, IsMoveOf, IsItemOf, label_count, Takes, IsQuiet, AreMovesOf}
+use Rattle.lts_base.specs.After.{Shows}
 use Rattle.lts_base.proofs.ListLaws.{Contains-first_cases, Contains-first, none_contained}
 use Rattle.state_sets.specs.Finds.{IsLeastFrom, IsTakenIn}
 use Rattle.state_sets.specs.Rows.{Table, HasBit, HasPlace, IsRowOf, AreMasks, width_of}

@@ -6,7 +6,7 @@ use Rattle.std.proofs.lemmas.List.Elements.{All-nil}
 use Rattle.std.proofs.lemmas.Bool.{cases_lt, iff_false}
 use Rattle.lts_base.specs.declared.action.Act.TheVariants.{Tau}
 use Rattle.lts_base.specs.System.{System, HasMove}
-use Rattle.state_sets.specs.Finds.{Adds}
+use Rattle.lts_base.specs.Finds.{Adds}
 use Rattle.state_sets.specs.Taus.{AreTauFlags, AreTauFlagsTo}
 
 pub flags_none : (s : System) → AreTauFlagsTo s 0 []

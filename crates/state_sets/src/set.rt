@@ -6,7 +6,7 @@ ghost use Rattle.lts_base.specs.System.{IsItemOf};
 ghost use Rattle.lts_base.specs.After.{IsSetAfter, Shows, ShowsAfter, Allows};
 ghost use Rattle.lts_base.specs.Conformance.{IsAllowed};
 ghost use Rattle.lts_base.specs.Next.{IsNext};
-ghost use Rattle.state_sets.specs.Finds.{IsSorted};
+ghost use Rattle.lts_base.specs.Finds.{IsSorted};
 
 use crate::offers::{allowed_by, shown_by};
 use crate::search::{FEW, Search};

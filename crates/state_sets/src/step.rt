@@ -5,7 +5,7 @@ ghost use Rattle.lts_base.specs.After.{IsSetAfter};
 ghost use Rattle.lts_base.specs.Next.{IsNext};
 ghost use Rattle.lts_base.specs.Path.{Leads, IsSeen};
 ghost use Rattle.lts_base.specs.declared.action.Act.TheVariants.{Tau, Label};
-ghost use Rattle.state_sets.specs.Finds.{Adds, AreReached, AreNext};
+ghost use Rattle.lts_base.specs.Finds.{Adds, AreReached, AreNext};
 ghost use Rattle.state_sets.specs.Taus.{AreTauFlags};
 
 use crate::moves::first_from;

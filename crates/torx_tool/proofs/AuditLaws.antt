@@ -35,7 +35,8 @@ use Rattle.cmd_verify.proofs.OnceLaws.{verified_moved}
 use Rattle.torx_tool.specs.declared.commands.Name.{Name}
 use Rattle.torx_tool.specs.declared.status.Status.{Status}
 use Rattle.torx_tool.specs.declared.status.Status.TheVariants.{Accepted}
-use Rattle.torx_tool.specs.Status.{verify_status, refusal_status, IsFailure}
+use Rattle.torx_tool.specs.Commands.{verify_status}
+use Rattle.torx_tool.specs.Status.{refusal_status, IsFailure}
 use Rattle.cmd_drive.specs.Dialled.{Dialled}
 use Rattle.torx_tool.specs.Run.{ReportsBy, IsReportOn, IsWritten}
 use Rattle.torx_tool.specs.Exact.{IsBut, IsByCommand, IsByName, IsAnswered}

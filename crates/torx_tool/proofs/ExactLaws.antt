@@ -13,22 +13,14 @@ use Rattle.tool_base.specs.declared.report.Report.{Report}
 use Rattle.tool_base.specs.Contents.{Contents, AreTold}
 use Rattle.tool_base.specs.Once.{IsOnce, IsRefusedOnce}
 use Rattle.tool_base.specs.Pages.{Page, Command, Answers, AnswersReading, IsFault, IsOnPage, IsUsage}
-use Rattle.cmd_check.proofs.OnceLaws.{check_once}
-use Rattle.cmd_verify.proofs.OnceLaws.{verify_once}
-use Rattle.cmd_outs.proofs.OnceLaws.{outs_once}
-use Rattle.cmd_angelic.proofs.OnceLaws.{angelic_once}
-use Rattle.cmd_replay.proofs.OnceLaws.{replay_once, migrate_once}
-use Rattle.cmd_demo.proofs.OnceLaws.{demo_once}
 use Rattle.cmd_drive.specs.Dialled.{Dialled}
-use Rattle.cmd_drive.proofs.OnceLaws.{drive_refused_once, rehearse_refused_once}
-use Rattle.std.proofs.lemmas.Bool.{false≢true}
 use Rattle.torx_tool.specs.declared.commands.Name.{Name}
-use Rattle.torx_tool.specs.declared.commands.Name.TheVariants.{Check, Verify, Outs, Angelic, Replay, Migrate, Demo, Drive, Rehearse}
 use Rattle.torx_tool.specs.declared.status.Status.{Status}
 use Rattle.torx_tool.specs.declared.status.Status.TheVariants.{Usage}
 use Rattle.torx_tool.specs.Commands.{named, Row, row}
 use Rattle.torx_tool.specs.Status.{refusal_status, IsFailure}
 use Rattle.torx_tool.specs.Run.{no_memory, stop_report, report_of, IsReport, Reports, ReportsBy, IsReportOn, IsWritten}
+use Rattle.torx_tool.proofs.RowLaws.{IsOnceBy, row_once}
 use Rattle.torx_tool.specs.Exact.{IsBut, IsRefusedBy, IsByPage, IsByCommand, IsByName, IsAnswered}
 
 -- what a report says, by the page of the command: a failure, what the page refuses, or what it answers
@@ -107,24 +99,12 @@ refused_by page status report r once (inl failure) why = inr failure
 refused_by page status report r once (inr (inl other)) why = inl (other.refusal, once.refused r other.refusal why other.refuses, ap (λ (x : Report Status). x.outcome) other.is)
 refused_by page status report r once (inr (inr answer)) why = absurd (once.apart r answer.outcome answer.text why answer.answers)
 
--- what is so once is refused once
-pub refused_once : {O : Type 0} (page : Page O) → IsOnce page → IsRefusedOnce page
-refused_once page once = record { refused = once.refused; apart = once.apart }
-
 -- what it answers is answered
 answered_by : {O : Type 0} (page : Page O) (status : O → Status) (report : Report Status) (o : O) (t : List ℕ) → IsOnce page → IsByReport page status report → page.answers o t → IsBut (status o) report.outcome
 answered_by page status report o t once (inl failure) due = inr failure
 answered_by page status report o t once (inr (inl other)) due = absurd (once.apart other.refusal o t other.refuses due)
 answered_by page status report o t once (inr (inr answer)) due =
     inl (ap (λ (x : Report Status). x.outcome) answer.is ∙ ap status (once.answered answer.outcome o answer.text t answer.answers due))
-
--- the page refuses once; and where the contents decide its outcome, it answers once
-pub record IsOnceBy {O : Type 0} (page : Page O) (decided : Bool) : Type 0 where
-  pub refuses : IsRefusedOnce page
-  pub answers : decided ≡ true → IsOnce page
-
-decided_once : {O : Type 0} (page : Page O) → IsOnce page → IsOnceBy page true
-decided_once page once = record { refuses = refused_once page once; answers = λ is. once }
 
 exact_page : {A O : Type 0} (command : Command A O) (status : O → Status) (decided : Bool) (words : List (List ℕ)) (x : A) (old new : ToldFiles) (report : Report Status) → asked command.shape command.asked words ≡ Ok x → Reports command status words old new report →
     IsOnceBy (command.page old.content x) decided → IsByPage (command.page old.content x) status decided report.outcome
@@ -148,18 +128,6 @@ exact command status decided words old new report once h = record {
 no_command : (kind : UsageKind) (report : Report Status) → IsReport (stop_report (BadWords kind)) report → IsBut (Usage kind) report.outcome
 no_command kind report (inl is) = inl (ap (λ (x : Report Status). x.outcome) is)
 no_command kind report (inr memory) = inr (memory_fails report memory)
-
--- each command answers one thing for what it is asked for and the contents of its files, or refuses it for one cause
-row_once : (run : Dialled) (name : Name) (contents : Contents) (x : (row run name).Asked) → AreTold contents ((row run name).command.page contents x).names → IsOnceBy ((row run name).command.page contents x) (row run name).decided
-row_once run Check contents x told = decided_once _ (check_once contents x told)
-row_once run Verify contents x told = decided_once _ (verify_once contents x told)
-row_once run Outs contents x told = decided_once _ (outs_once contents x told)
-row_once run Angelic contents x told = decided_once _ (angelic_once contents x told)
-row_once run Replay contents x told = decided_once _ (replay_once contents x told)
-row_once run Migrate contents x told = decided_once _ (migrate_once contents x told)
-row_once run Demo contents x told = decided_once _ (demo_once contents x)
-row_once run Drive contents x told = record { refuses = drive_refused_once run contents x told; answers = λ is. absurd (false≢true is) }
-row_once run Rehearse contents x told = record { refuses = rehearse_refused_once contents x told; answers = λ is. absurd (false≢true is) }
 
 exact_name : (run : Dialled) (name : Option Name) (words : List (List ℕ)) (old new : ToldFiles) (report : Report Status) → ReportsBy run name words old new report → IsByName run name old.content words report.outcome
 exact_name run (Some name) words old new report h = exact (row run name).command (row run name).status (row run name).decided words old new report (row_once run name old.content) h

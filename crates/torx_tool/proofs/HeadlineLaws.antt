@@ -24,7 +24,8 @@ use Rattle.cmd_check.specs.Check.{outcome_of, check_page, check_command, IsVerdi
 use Rattle.cmd_check.proofs.OnceLaws.{lacking_unable, sound_pair, verdict_moved}
 use Rattle.torx_tool.specs.declared.commands.Name.{Name}
 use Rattle.torx_tool.specs.declared.status.Status.{Status}
-use Rattle.torx_tool.specs.Status.{check_status, IsFailure}
+use Rattle.torx_tool.specs.Commands.{check_status}
+use Rattle.torx_tool.specs.Status.{IsFailure}
 use Rattle.cmd_drive.specs.Dialled.{Dialled}
 use Rattle.torx_tool.specs.Run.{ReportsBy, IsReportOn, IsWritten}
 use Rattle.torx_tool.specs.Headline.{AskForCheck, IsComparable, HasRoom, HasRoomUpTo, IsCutBy, IsRight, Tells, Prints, IsSettled}

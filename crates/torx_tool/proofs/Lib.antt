@@ -1,4 +1,5 @@
 mod RoomLaws
+mod RowLaws
 mod ExactLaws
 mod HeadlineLaws
 mod AuditLaws

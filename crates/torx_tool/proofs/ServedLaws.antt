@@ -12,10 +12,9 @@ use Rattle.torx_tool.specs.declared.commands.Name.{Name}
 use Rattle.torx_tool.specs.declared.commands.Name.TheVariants.{Drive}
 use Rattle.torx_tool.specs.declared.status.Status.{Status}
 use Rattle.torx_tool.specs.declared.status.Status.TheVariants.{OutFault}
-use Rattle.torx_tool.specs.Commands.{named}
+use Rattle.torx_tool.specs.Commands.{named, drive_status}
 use Rattle.torx_tool.specs.Run.{no_memory, stop_report, report_of, IsReport, IsWritten}
 use Rattle.torx_tool.specs.Served.{IsOfSession, AsksFor, IsServed, IsServedBy}
-use Rattle.torx_tool.specs.Status.{drive_status}
 
 -- nothing was asked of the dialer
 pub served_none : (name : Option Name) (words : List (List ℕ)) (told : ToldDialer) (status : Status) → IsServedBy name words told told status

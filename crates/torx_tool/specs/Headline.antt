@@ -19,8 +19,8 @@ use Rattle.cmd_check.specs.Asked.{AskedCheck, check_shape, check_of, check_sourc
 use Rattle.cmd_check.specs.Check.{outcome_of, answer_text, IsAble}
 use Rattle.torx_tool.specs.declared.commands.Name.TheVariants.{Check}
 use Rattle.torx_tool.specs.declared.status.Status.{Status}
-use Rattle.torx_tool.specs.Commands.{named}
-use Rattle.torx_tool.specs.Status.{check_status, IsFailure}
+use Rattle.torx_tool.specs.Commands.{named, check_status}
+use Rattle.torx_tool.specs.Status.{IsFailure}
 
 -- the words ask for `check`, and for this of it
 abbrev pub AskForCheck : List (List ℕ) → AskedCheck → Type 0

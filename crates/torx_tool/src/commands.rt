@@ -70,6 +70,7 @@ pub fn command_named(word: &str) -> Option<Name>
 }
 
 /// The report of a command on the words after its name.
+#[tactic(auto, using(crate::proofs::ServedLaws::served_none))]
 pub fn command_report<F: Files, D: Dialer>(
     alloc: Global,
     name: Name,

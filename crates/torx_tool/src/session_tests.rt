@@ -1,7 +1,10 @@
 //! Sessions: each cell of their table, and drives with the acts of their links.
-ghost use Rattle.std.specs.Prelude.{◌≡◌, ◌<◌, ◌≤◌, IfOk};
+ghost use Rattle.std.specs.Prelude.{◌≡◌, ◌<◌, ◌≤◌, length, IfOk, IfSome};
+ghost use Rattle.log_text.specs.declared.limits.TheConstants.{MOST_PATIENCE, MOST_STEPS};
+ghost use Rattle.lts_base.specs.Alphabet.{IsOver as IsSystemOver};
 ghost use Rattle.session_core.specs.Table.{opening};
 ghost use Rattle.tool_base.specs.Loaded.{IsOneOver};
+ghost use Rattle.walk_core.specs.Walked.{IsFresh};
 
 use crate::table::{bytes_of, cell, is_case, number};
 use crate::tests::contents;
@@ -18,7 +21,7 @@ use std::sync::ledger::{Blank, Ledger};
 use std::test::Fail;
 use tool_base::{OneSystem, one_system};
 use torx_words::Sorting;
-use walk_core::{Choice, Choose, LazyWalk, Steps, Walk, WalkError};
+use walk_core::{Choice, Choose, LazyWalk, PlainWalk, Steps, Walk, WalkError};
 
 /// The systems of the cases.
 const SYSTEMS: &str = r#"
@@ -248,35 +251,27 @@ fn items_of(alloc: Global, labels: &Labels, cell: &str) -> Result<Trace, Memory>
     Ok(items)
 }
 
-/// A session of a case over its system.
-fn opened<'a>(
-    alloc: Global,
-    one: &'a OneSystem,
-    case: &str,
-    most: u64,
-) -> Result<Session<'a, LazyWalk<'a>>, Fail>
-    requires over { IsOneOver one.now }
-    requires most { most ≤ 1000 }
-    ensures { IfOk result (λ session. session.sitting ≡ opening) }
+/// What a case asks for.
+fn setup_of(alloc: Global, labels: &Labels, case: &str) -> Result<Setup, Memory>
+    ensures patience { IfOk result (λ s. (1 ≤ s.patience) × (s.patience ≤ MOST_PATIENCE)) }
+    ensures steps { IfOk result (λ s. (1 ≤ s.steps) × (s.steps ≤ MOST_STEPS)) }
+    ensures goal { IfOk result (λ s. IfSome s.goal (λ goal. (1 ≤ length goal) × (length goal ≤ s.steps))) }
 {
     let patience = number(cell(case, 1)).clamp(1, u64::from(MOST_PATIENCE)) as u32;
     let steps = number(cell(case, 2)).clamp(1, u64::from(MOST_STEPS)) as u32;
-    let items = items_of(alloc, &one.labels, cell(case, 3))?;
+    let items = items_of(alloc, labels, cell(case, 3))?;
     let count = items.as_slice().len();
     let goal = if count >= 1 && count <= steps as usize {
         Some(items)
     } else {
         None
     };
-    let setup = Setup {
+    Ok(Setup {
         mode: Mode::Ioco,
         patience,
         steps,
         goal,
-    };
-    let walk = LazyWalk::new(alloc, &one.system, most)?;
-    let session = Session::new(alloc, &one.labels, walk, setup)?;
-    Ok(session)
+    })
 }
 
 /// Tells a session the events of a cell, up to one that doesn't fit; whether all fit.
@@ -601,8 +596,26 @@ fn most_of(table: Table, case: &str) -> u64
     }
 }
 
-/// What a case comes to over its system.
-fn seen_over<L: Ledger>(
+/// What a case comes to over a walk of its system.
+fn seen_over<W: Walk + Drop, L: Ledger>(
+    alloc: Global,
+    labels: &Labels,
+    walk: W,
+    table: Table,
+    case: &str,
+    steps: &mut Steps<L>,
+) -> Result<Seen, Fail>
+    requires fresh { IsFresh (W.walked walk) }
+    requires over { IsSystemOver labels.now (W.walked walk).system }
+{
+    let setup = setup_of(alloc, labels, case)?;
+    let mut session = Session::new(alloc, labels, walk, setup)?;
+    // (the session is let go in one place: each takes the prover half a minute)
+    seen_in(alloc, labels, &mut session, table, case, steps)
+}
+
+/// What a case comes to over a plain walk.
+fn seen_by_plain_walk<L: Ledger>(
     alloc: Global,
     one: &OneSystem,
     table: Table,
@@ -611,9 +624,22 @@ fn seen_over<L: Ledger>(
 ) -> Result<Seen, Fail>
     requires { IsOneOver one.now }
 {
-    let mut session = opened(alloc, one, case, most_of(table, case))?;
-    // (the session is let go in one place: each takes the prover half a minute)
-    seen_in(alloc, &one.labels, &mut session, table, case, steps)
+    let walk = PlainWalk::new(alloc, &one.system, most_of(table, case))?;
+    seen_over(alloc, &one.labels, walk, table, case, steps)
+}
+
+/// What a case comes to over a lazy walk.
+fn seen_by_lazy_walk<L: Ledger>(
+    alloc: Global,
+    one: &OneSystem,
+    table: Table,
+    case: &str,
+    steps: &mut Steps<L>,
+) -> Result<Seen, Fail>
+    requires { IsOneOver one.now }
+{
+    let walk = LazyWalk::new(alloc, &one.system, most_of(table, case))?;
+    seen_over(alloc, &one.labels, walk, table, case, steps)
 }
 
 /// What a case is to come to.
@@ -635,7 +661,7 @@ fn wants(alloc: Global, table: Table, case: &str) -> Result<Seen, AllocError> {
     Ok(Seen { first, second })
 }
 
-/// Tries a case, and compares what it came to.
+/// Tries a case over both walks, and compares what it came to.
 fn try_case<R: Abort, L: Ledger>(
     rt: &R,
     alloc: Global,
@@ -644,8 +670,10 @@ fn try_case<R: Abort, L: Ledger>(
     steps: &mut Steps<L>,
 ) -> Result<(), Fail> {
     let one = system_of(alloc, case)?;
-    let seen = seen_over(alloc, &one, table, case, steps)?;
-    compare(rt, alloc, &seen, table, case)
+    let plain = seen_by_plain_walk(alloc, &one, table, case, steps)?;
+    compare(rt, alloc, &plain, table, case)?;
+    let lazy = seen_by_lazy_walk(alloc, &one, table, case, steps)?;
+    compare(rt, alloc, &lazy, table, case)
 }
 
 /// Compares what a case came to.

@@ -1,7 +1,8 @@
 //! The answers of the program, and their exit statuses.
 ghost use Rattle.std.specs.Prelude.{◌≡◌};
 ghost use Rattle.torx_tool.specs.declared.status.Status.{Status as TheStatus};
-ghost use Rattle.torx_tool.specs.Status.{code_of, check_status as status_of_check, verify_status as status_of_verify, outs_status as status_of_outs, angelic_status as status_of_angelic, replay_status as status_of_replay, migrate_status as status_of_migrate, demo_status as status_of_demo, drive_status as status_of_drive, rehearse_status as status_of_rehearse, replayed_code as code_of_replay, ended_code as code_of_end, refusal_status as status_of_refusal};
+ghost use Rattle.torx_tool.specs.Commands.{code_of, check_status as status_of_check, verify_status as status_of_verify, outs_status as status_of_outs, angelic_status as status_of_angelic, replay_status as status_of_replay, migrate_status as status_of_migrate, demo_status as status_of_demo, drive_status as status_of_drive, rehearse_status as status_of_rehearse, replayed_code as code_of_replay, ended_code as code_of_end};
+ghost use Rattle.torx_tool.specs.Status.{refusal_status as status_of_refusal};
 
 use cert_check::Checked;
 use cmd_angelic::AngelicOutcome;

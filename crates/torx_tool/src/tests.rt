@@ -9,7 +9,7 @@ use std::process::Abort;
 use std::test::Fail;
 
 /// The files that the cases speak of: name and content.
-const FILES: &str = r#"
+pub const FILES: &str = r#"
 S.aut | des (0,3,3)\n(0,"?coin",1)\n(1,"!tea",2)\n(1,"!coffee",2)\n
 I.aut | des (0,4,3)\n(0,"?coin",1)\n(1,"!tea",2)\n(1,"?coin",1)\n(2,"?coin",2)\n
 M.aut | des (0,2,3)\n(0,"?coin",1)\n(1,"!milk",2)\n
@@ -104,7 +104,7 @@ fn answer<R: Abort>(rt: &R, alloc: Global, files: &str, case: &str) -> Result<()
 }
 
 /// Words, text and status: decisions.
-const DECIDED: &str = r#"
+pub const DECIDED: &str = r#"
 check S.aut I.aut | conforms pairs=3\n | 0
 check S.aut M.aut | violates\nafter ?coin\nshows !milk\n | 1
 check S.aut Q.aut | violates\nafter ?coin\nshows delta\n | 1
@@ -163,7 +163,7 @@ fn tells_what_is_wrong_with_files(rt: HostRuntime) -> Result<(), Fail> {
 }
 
 /// Words, text and status: what a specification offers, and its completion.
-const OFFERED: &str = r#"
+pub const OFFERED: &str = r#"
 outs S.aut | states 0\nshows delta\ninput ?coin\n | 0
 outs S.aut coin | states 1\nshows !coffee\nshows !tea\n | 0
 outs S.aut coins | absent 2\n | 1
@@ -220,7 +220,7 @@ fn refuses_words(rt: HostRuntime) -> Result<(), Fail> {
 }
 
 /// Words, text and status: divergent systems.
-const QUIET: &str = r#"
+pub const QUIET: &str = r#"
 check --divergence quiet D.aut D.aut | conforms pairs=1\n | 0
 check --divergence quiet X.aut D.aut | violates\nshows delta\n | 1
 outs --divergence quiet spin.aut | states 0 1\nshows delta\n | 0
@@ -245,7 +245,7 @@ fn reads_divergent_systems_as_quiet(rt: HostRuntime) -> Result<(), Fail> {
 }
 
 /// A violation by the opening pair isn't told where that pair is above a limit.
-const LIMITED: &str = r#"
+pub const LIMITED: &str = r#"
 check --members 1 T.aut X.aut | undecided spec-members=2 depth=0\n | 2
 check --members 1 X.aut T.aut | undecided imp-members=2 depth=0\n | 2
 check --members 2 X.aut T.aut | violates\nshows delta\n | 1

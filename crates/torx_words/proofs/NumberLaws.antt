@@ -1,5 +1,5 @@
 -- The number of a text, and the range of an option's number.
-use Rattle.std.proofs.Common.{arith, ◌≡◌, ◌&&◌, ◌^◌, ℕ, ◌<◌, ◌≤◌, Bool, cond, true, false, refl, sym, ap, subst, List, [], ◌∷◌, length, map, Option, Some, None, Result, Ok, Err, is_some, unwrap_or, true≢false}
+use Rattle.std.proofs.Common.{arith, ◌≡◌, ◌&&◌, ◌^◌, ℕ, ◌<◌, ◌≤◌, Bool, cond, true, false, refl, sym, ap, subst, List, [], ◌∷◌, length, map, Option, Some, None, Ok, Err, is_some, unwrap_or, true≢false}
 use Rattle.std.specs.Prelude.{MatchOption, nat_le, nat_lt, option_and_then, option_map, min, max}
 use Rattle.std.specs.Char.{digit_value}
 use Rattle.std.specs.List.{find, list_all}

@@ -1,4 +1,7 @@
 //! The form of the words after a command.
+ghost use Rattle.std.specs.Prelude.{◌≡◌, map};
+ghost use Rattle.torx_words.specs.Named.{entry_from, shape_from};
+ghost use Rattle.torx_words.specs.Options.{plain_shape};
 
 /// What may stand as the value of an option.
 #[derive(Clone, Copy, PartialEq, Eq, Debug)]
@@ -42,4 +45,20 @@ pub struct Form<'a> {
     pub least: usize,
     /// The most files.
     pub most: usize,
+}
+
+impl<'a> Form<'a> {
+    /// The form with these options and with `least` to `most` files, of which no option must stand
+    /// and no further two exclude each other.
+    pub fn plain(options: &'a [NamedOption<'a>], least: usize, most: usize) -> Form<'a>
+        ensures { shape_from result ≡ plain_shape (map entry_from options.entry.now) least most }
+    {
+        Form {
+            options,
+            required: &[],
+            clashes: &[],
+            least,
+            most,
+        }
+    }
 }

@@ -7,6 +7,7 @@ mod checks;
 pub mod form;
 pub mod given;
 pub mod kind;
+pub mod options;
 mod parse;
 mod values;
 
@@ -14,3 +15,4 @@ pub use asked::Sorting;
 pub use form::{Form, NamedOption, ValueKind};
 pub use given::{Given, read_words};
 pub use kind::{UsageKind, WordsError};
+pub use options::{DIVERGENCE, INPUTS, MARKS, UIOCO};

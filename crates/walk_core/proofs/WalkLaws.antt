@@ -24,7 +24,7 @@ use Rattle.lts_base.proofs.DistinctLaws.{with_new-absent, with_new-there, distin
 use Rattle.walk_core.specs.declared.walk.WalkError.{WalkError}
 use Rattle.walk_core.specs.declared.walk.WalkError.TheVariants.{Full, Memory}
 use Rattle.walk_core.specs.Refused.{RefusesSet, RefusesAccount}
-use Rattle.state_sets.specs.Finds.{AreNext}
+use Rattle.lts_base.specs.Finds.{AreNext}
 use Rattle.state_sets.specs.Taus.{AreTauFlags}
 use Rattle.state_sets.proofs.Reaching.{IsNext-one}
 use Rattle.std.proofs.Math.Nat.{mod-add-div'}

@@ -1,5 +1,5 @@
 use Rattle.std.proofs.Common.{◌≡◌, ◌-◌}
-use Rattle.cert_check.proofs.FindLaws.{IsClosing}
+use Rattle.lts_base.proofs.FindLaws.{IsClosing}
 use Rattle.cert_check.proofs.sets.close.Given as goal
 
 abbrev pub invariant-finds : goal.invariant-finds

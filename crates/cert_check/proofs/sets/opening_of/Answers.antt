@@ -1,4 +1,4 @@
-use Rattle.cert_check.proofs.FindLaws.{IsSetAfter-from_reached}
+use Rattle.lts_base.proofs.FindLaws.{IsSetAfter-from_reached}
 use Rattle.cert_check.proofs.sets.opening_of.Goals as goal
 
 pub returns-clause-opening : goal.returns-clause-opening

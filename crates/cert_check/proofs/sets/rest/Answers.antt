@@ -1,4 +1,4 @@
-use Rattle.cert_check.proofs.FindLaws.{Adds-quiet}
+use Rattle.lts_base.proofs.FindLaws.{Adds-quiet}
 use Rattle.cert_check.proofs.sets.rest.Goals as goal
 
 pub returns-in_ok-add-clause-adds : goal.returns-in_ok-add-clause-adds

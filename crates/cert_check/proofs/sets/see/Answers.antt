@@ -1,5 +1,5 @@
 use Rattle.std.proofs.Common.{◌∙◌}
-use Rattle.cert_check.proofs.FindLaws.{IsReaching-more, IsReaching-all}
+use Rattle.lts_base.proofs.FindLaws.{IsReaching-more, IsReaching-all}
 use Rattle.cert_check.proofs.sets.see.Goals as goal
 
 pub states-preserved : goal.states-preserved

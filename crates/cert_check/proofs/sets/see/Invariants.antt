@@ -1,6 +1,6 @@
 use Rattle.std.proofs.Common.{◌≡◌}
 use Rattle.lts_base.specs.Path.{IsSeen}
-use Rattle.cert_check.proofs.FindLaws.{IsReaching}
+use Rattle.lts_base.proofs.FindLaws.{IsReaching}
 use Rattle.cert_check.proofs.sets.see.Given as goal
 
 abbrev pub invariant-states : goal.invariant-states

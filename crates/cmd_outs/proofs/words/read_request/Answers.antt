@@ -2,8 +2,8 @@ use Rattle.torx_words.proofs.AskedLaws.{asked_err, asked_ok}
 use Rattle.cmd_outs.specs.Asked.{outs_of, outs_shape}
 use Rattle.cmd_outs.proofs.words.read_request.Goals as goal
 
-pub returns-in-Ok : goal.returns-in-Ok
-returns-in-Ok c = asked_ok outs_shape outs_of _ _ _ c.in-Ok.ensures.given c.request_of.ensures
+pub returns-in_err-given : goal.returns-in_err-given
+returns-in_err-given c = asked_err outs_shape _ outs_of _ _ _ _ c.plain.ensures c.from_residual.ensures.1 c.in_err-given.ensures.given
 
-pub returns-in-Err : goal.returns-in-Err
-returns-in-Err c = asked_err outs_shape outs_of _ _ c.in-Err.ensures.given
+pub returns : goal.returns
+returns c = asked_ok outs_shape _ outs_of _ _ _ c.plain.ensures c.in_ok-given.ensures.given c.request_of.ensures

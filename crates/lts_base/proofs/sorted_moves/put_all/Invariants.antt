@@ -1,5 +1,5 @@
 use Rattle.std.proofs.Common.{◌≡◌, ◌++◌, take, map}
-use Rattle.lts_base.specs.SortedMoves.{move_of}
+use Rattle.lts_base.specs.MoveNumber.{move_of}
 use Rattle.lts_base.proofs.sorted_moves.put_all.Given as goal
 
 abbrev pub invariant-keys : goal.invariant-keys

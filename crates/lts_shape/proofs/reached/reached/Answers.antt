@@ -1,5 +1,5 @@
 use Rattle.std.proofs.Common.{◌≤◌, ◌<◌, ℕ, length, ◌∙◌, arith}
-use Rattle.state_sets.proofs.Reaching.{Contains-added}
+use Rattle.lts_base.proofs.FindLaws.{Contains-added}
 use Rattle.lts_base.specs.declared.action.Act.{Act}
 use Rattle.lts_base.specs.System.{HasMove}
 use Rattle.lts_shape.specs.Inputs.{EndsSome}

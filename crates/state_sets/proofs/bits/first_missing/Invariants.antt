@@ -1,4 +1,4 @@
-use Rattle.std.proofs.Common.{ℕ, ◌-◌}
+use Rattle.std.proofs.Common.{◌-◌}
 use Rattle.state_sets.proofs.BitLaws.{IsAgreed}
 use Rattle.state_sets.proofs.bits.first_missing.Given as goal
 

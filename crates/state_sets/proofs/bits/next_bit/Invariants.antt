@@ -1,4 +1,4 @@
-use Rattle.std.proofs.Common.{ℕ, ◌-◌}
+use Rattle.std.proofs.Common.{◌-◌}
 use Rattle.state_sets.proofs.BitLaws.{IsPassed}
 use Rattle.state_sets.proofs.bits.next_bit.Given as goal
 

@@ -1,5 +1,5 @@
-use Rattle.std.proofs.Common.{◌∙◌, arith, refl}
-use Rattle.state_sets.proofs.MaskLaws.{marked_none, marked_label, marked_tau, marked_all, takes_within, place_within}
+use Rattle.std.proofs.Common.{◌∙◌, arith}
+use Rattle.state_sets.proofs.MaskLaws.{marked_label, marked_tau, marked_all}
 use Rattle.state_sets.proofs.masks.mark_labels.Goals.{in-Label, in_default}
 use Rattle.state_sets.proofs.masks.mark_labels.Goals as goal
 

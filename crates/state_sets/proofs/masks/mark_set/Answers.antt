@@ -1,6 +1,6 @@
 use Rattle.std.proofs.Common.{[], ◌∷◌, get_or}
 use Rattle.state_sets.specs.Rows.{IsRowOf}
-use Rattle.state_sets.proofs.MaskLaws.{first_clear, first_join, first_all}
+use Rattle.state_sets.proofs.MaskLaws.{first_join, first_all}
 use Rattle.state_sets.proofs.masks.mark_set.Goals as goal
 
 pub states-preserved : goal.states-preserved

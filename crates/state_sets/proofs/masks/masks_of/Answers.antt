@@ -1,6 +1,6 @@
-use Rattle.std.proofs.Common.{◌≡◌, ◌++◌, length, take, drop, arith, sym, ◌∙◌, rules}
+use Rattle.std.proofs.Common.{◌≡◌, ◌++◌, length, take, drop, arith, rules}
 use Rattle.state_sets.proofs.RowLaws.{whole_row}
-use Rattle.state_sets.proofs.MaskLaws.{masks_none, masks_more, masks_all}
+use Rattle.state_sets.proofs.MaskLaws.{masks_more, masks_all}
 use Rattle.state_sets.proofs.masks.masks_of.Goals as goal
 
 pub states-preserved : goal.states-preserved

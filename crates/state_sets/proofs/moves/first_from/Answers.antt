@@ -1,8 +1,8 @@
 use Rattle.std.proofs.Common.{◌+◌, sym, ◌∙◌, arith}
 use Rattle.std.proofs.lemmas.List.{take_rest}
-use Rattle.std.proofs.lemmas.Bool.{ltb-true, false≢true}
+use Rattle.std.proofs.lemmas.Bool.{false≢true}
 use Rattle.std.proofs.lemmas.Bool.Decides.{Decides-ltb}
-use Rattle.state_sets.proofs.ActLaws.{point_at, point_in_rest, before_more}
+use Rattle.state_sets.proofs.ActLaws.{point_at, point_in_rest}
 use Rattle.state_sets.proofs.moves.first_from.Goals as goal
 
 pub returns-then-not-is_before-clause-point : goal.returns-then-not-is_before-clause-point

@@ -1,4 +1,4 @@
-use Rattle.state_sets.proofs.Reaching.{Adds-quiet}
+use Rattle.lts_base.proofs.FindLaws.{Adds-quiet}
 use Rattle.state_sets.proofs.step.add_quiet.Goals as goal
 
 pub returns-in_ok-add-clause-adds : goal.returns-in_ok-add-clause-adds

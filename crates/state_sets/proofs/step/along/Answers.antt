@@ -1,5 +1,5 @@
 use Rattle.std.proofs.Common.{◌∙◌}
-use Rattle.state_sets.proofs.Reaching.{IsReaching-more, IsReaching-all}
+use Rattle.lts_base.proofs.FindLaws.{IsReaching-more, IsReaching-all}
 use Rattle.state_sets.proofs.step.along.Goals as goal
 
 pub states-preserved : goal.states-preserved

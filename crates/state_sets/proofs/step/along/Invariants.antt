@@ -1,7 +1,7 @@
 use Rattle.std.proofs.Common.{◌≡◌}
 use Rattle.lts_base.specs.declared.action.Act.TheVariants.{Label}
 use Rattle.lts_base.specs.System.{HasMove}
-use Rattle.state_sets.proofs.Reaching.{IsReaching}
+use Rattle.lts_base.proofs.FindLaws.{IsReaching}
 use Rattle.state_sets.proofs.step.along.Given as goal
 
 abbrev pub invariant-states : goal.invariant-states

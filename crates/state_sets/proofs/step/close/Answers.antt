@@ -1,5 +1,5 @@
 use Rattle.std.proofs.Common.{◌≤◌, ◌<◌, length, ◌∙◌, arith}
-use Rattle.state_sets.proofs.Reaching.{IsClosing-none, IsClosing-more, IsClosing-all}
+use Rattle.lts_base.proofs.FindLaws.{IsClosing-none, IsClosing-more, IsClosing-all}
 use Rattle.state_sets.proofs.step.close.Goals as goal
 
 pub finds-init : goal.finds-init

@@ -1,5 +1,5 @@
 use Rattle.std.proofs.Common.{◌≡◌, ◌-◌}
-use Rattle.state_sets.proofs.Reaching.{IsClosing}
+use Rattle.lts_base.proofs.FindLaws.{IsClosing}
 use Rattle.state_sets.proofs.step.close.Given as goal
 
 abbrev pub invariant-finds : goal.invariant-finds

@@ -1,4 +1,4 @@
-use Rattle.state_sets.proofs.Reaching.{AreNext-from_reached}
+use Rattle.lts_base.proofs.FindLaws.{AreNext-from_reached}
 use Rattle.state_sets.proofs.step.find_next.Goals as goal
 
 pub returns-clause-found : goal.returns-clause-found

@@ -1,4 +1,4 @@
-use Rattle.state_sets.proofs.Reaching.{IsNext-from_found}
+use Rattle.lts_base.proofs.FindLaws.{IsNext-from_found}
 use Rattle.state_sets.proofs.step.next_states.Goals as goal
 
 pub returns-clause-next : goal.returns-clause-next

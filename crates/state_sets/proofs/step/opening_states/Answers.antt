@@ -1,4 +1,4 @@
-use Rattle.state_sets.proofs.Reaching.{IsSetAfter-from_reached}
+use Rattle.lts_base.proofs.FindLaws.{IsSetAfter-from_reached}
 use Rattle.state_sets.proofs.step.opening_states.Goals as goal
 
 pub returns-clause-opening : goal.returns-clause-opening

@@ -1,6 +1,6 @@
 use Rattle.std.proofs.Common.{◌≡◌}
 use Rattle.lts_base.specs.System.{IsQuiet}
-use Rattle.state_sets.proofs.Reaching.{IsReaching}
+use Rattle.lts_base.proofs.FindLaws.{IsReaching}
 use Rattle.state_sets.proofs.step.rest.Given as goal
 
 abbrev pub invariant-states : goal.invariant-states

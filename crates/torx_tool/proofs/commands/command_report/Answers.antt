@@ -1,4 +1,4 @@
-use Rattle.torx_tool.proofs.ServedLaws.{served_none, served_drive}
+use Rattle.torx_tool.proofs.ServedLaws.{served_drive}
 use Rattle.torx_tool.proofs.commands.command_report.Goals as goal
 
 pub returns-in-Check-clause-report : goal.returns-in-Check-clause-report
@@ -22,27 +22,6 @@ returns-in-Migrate-clause-report g c = rw c.in-Migrate.is (c.migrate.result, c.m
 pub returns-in-Demo-clause-report : goal.returns-in-Demo-clause-report
 returns-in-Demo-clause-report g c = rw c.in-Demo.is (c.demo.result, c.demo.ensures _ _, c.reported-in-Demo.ensures)
 
-pub returns-in-Demo-clause-served : goal.returns-in-Demo-clause-served
-returns-in-Demo-clause-served g c = served_none _ _ _ _
-
-pub returns-in-Check-clause-served : goal.returns-in-Check-clause-served
-returns-in-Check-clause-served g c = served_none _ _ _ _
-
-pub returns-in-Verify-clause-served : goal.returns-in-Verify-clause-served
-returns-in-Verify-clause-served g c = served_none _ _ _ _
-
-pub returns-in-Outs-clause-served : goal.returns-in-Outs-clause-served
-returns-in-Outs-clause-served g c = served_none _ _ _ _
-
-pub returns-in-Angelic-clause-served : goal.returns-in-Angelic-clause-served
-returns-in-Angelic-clause-served g c = served_none _ _ _ _
-
-pub returns-in-Replay-clause-served : goal.returns-in-Replay-clause-served
-returns-in-Replay-clause-served g c = served_none _ _ _ _
-
-pub returns-in-Migrate-clause-served : goal.returns-in-Migrate-clause-served
-returns-in-Migrate-clause-served g c = served_none _ _ _ _
-
 pub returns-in-Drive-clause-report : goal.returns-in-Drive-clause-report
 returns-in-Drive-clause-report g c = rw c.in-Drive.is (c.drive.result, c.drive.ensures.answers, c.reported-in-Drive.ensures)
 
@@ -51,6 +30,3 @@ returns-in-Drive-clause-served g c = rw c.in-Drive.is (served_drive _ _ _ c.driv
 
 pub returns-in-Rehearse-clause-report : goal.returns-in-Rehearse-clause-report
 returns-in-Rehearse-clause-report g c = rw c.in-Rehearse.is (c.rehearse.result, c.rehearse.ensures.answers, c.reported-in-Rehearse.ensures)
-
-pub returns-in-Rehearse-clause-served : goal.returns-in-Rehearse-clause-served
-returns-in-Rehearse-clause-served g c = served_none _ _ _ _

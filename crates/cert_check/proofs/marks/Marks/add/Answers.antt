@@ -1,6 +1,6 @@
 use Rattle.std.proofs.Common.{◌≡◌, ◌<◌, length, get_or, true, false, sym, refl, ◌∙◌, inl}
 use Rattle.std.proofs.lemmas.List.{get_or_read}
-use Rattle.cert_check.proofs.MarkLaws.{IsMarked-push}
+use Rattle.lts_base.proofs.MarkLaws.{IsMarked-push}
 use Rattle.cert_check.proofs.marks.Marks.add.Goals as goal
 
 pub returns-then-index-clause-added : goal.returns-then-index-clause-added

@@ -1,5 +1,5 @@
 use Rattle.std.proofs.Common.{◌∙◌, length-set}
-use Rattle.cert_check.proofs.MarkLaws.{IsMarked-pop}
+use Rattle.lts_base.proofs.MarkLaws.{IsMarked-pop}
 use Rattle.cert_check.proofs.marks.Marks.clear.Goals as goal
 
 pub finds-preserved : goal.finds-preserved

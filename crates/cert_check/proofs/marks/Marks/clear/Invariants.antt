@@ -1,5 +1,5 @@
 use Rattle.std.proofs.Common.{◌≡◌, length}
-use Rattle.cert_check.specs.Finds.{IsMarked}
+use Rattle.lts_base.specs.Finds.{IsMarked}
 use Rattle.cert_check.proofs.marks.Marks.clear.Given as goal
 
 abbrev pub invariant-finds : goal.invariant-finds

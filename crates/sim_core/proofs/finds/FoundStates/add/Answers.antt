@@ -1,6 +1,6 @@
 use Rattle.std.proofs.Common.{◌≡◌, ◌<◌, length, get_or, true, false, sym, refl, ◌∙◌, inl, length-set, arith}
 use Rattle.std.proofs.lemmas.List.{get_or_read}
-use Rattle.state_sets.proofs.MarkLaws.{IsMarked-push}
+use Rattle.lts_base.proofs.MarkLaws.{IsMarked-push}
 use Rattle.sim_core.proofs.FindLaws.{room_for_one}
 use Rattle.sim_core.proofs.finds.FoundStates.add.Goals as goal
 

@@ -1,5 +1,5 @@
 use Rattle.std.proofs.Common.{◌∙◌, false, length-set}
-use Rattle.state_sets.proofs.MarkLaws.{IsMarked-pop}
+use Rattle.lts_base.proofs.MarkLaws.{IsMarked-pop}
 use Rattle.sim_core.proofs.finds.FoundStates.clear.Goals as goal
 
 pub finds-preserved : goal.finds-preserved

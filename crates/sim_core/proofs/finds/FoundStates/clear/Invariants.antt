@@ -1,5 +1,5 @@
 use Rattle.std.proofs.Common.{◌≡◌, ◌≤◌, length, vec_capacity}
-use Rattle.state_sets.specs.Finds.{IsMarked}
+use Rattle.lts_base.specs.Finds.{IsMarked}
 use Rattle.sim_core.proofs.finds.FoundStates.clear.Given as goal
 
 abbrev pub invariant-finds : goal.invariant-finds

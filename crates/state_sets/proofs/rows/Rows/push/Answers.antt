@@ -1,7 +1,7 @@
-use Rattle.std.proofs.Common.{◌≡◌, ◌∙◌, length, sym, ap, subst}
+use Rattle.std.proofs.Common.{◌≡◌, length, sym, subst}
 use Rattle.std.proofs.Math.Numerals.{add-one}
 use Rattle.state_sets.specs.Rows.{Table}
-use Rattle.state_sets.proofs.RowLaws.{rows_push, laid_more}
+use Rattle.state_sets.proofs.RowLaws.{rows_push}
 use Rattle.state_sets.proofs.rows.Rows.push.Goals as goal
 
 pub returns-clause-rows : goal.returns-clause-rows

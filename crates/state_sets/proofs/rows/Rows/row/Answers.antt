@@ -1,4 +1,4 @@
-use Rattle.std.proofs.Common.{◌<◌, ◌≤◌, ◌≡◌, ◌+◌, ◌-◌, ◌*◌, length, arith, sym, ap, ◌∙◌, take, rules}
+use Rattle.std.proofs.Common.{◌<◌, ◌≤◌, ◌≡◌, ◌+◌, ◌-◌, ◌*◌, length, arith, sym, rules}
 use Rattle.state_sets.proofs.RowLaws.{length_rows, rows_at, rows_within}
 use Rattle.state_sets.proofs.rows.Rows.row.Goals as goal
 

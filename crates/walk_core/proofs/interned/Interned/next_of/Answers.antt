@@ -2,8 +2,8 @@ use Rattle.std.proofs.Common.{◌≡◌, [], ◌<◌, length, get_or, All, sym, 
 use Rattle.std.proofs.lemmas.List.{get_or_read}
 use Rattle.walk_core.specs.Walked.{set_at}
 use Rattle.walk_core.specs.Interned.{AreAlone}
-use Rattle.state_sets.specs.Finds.{AreNext}
-use Rattle.state_sets.proofs.Reaching.{IsNext-from_found}
+use Rattle.lts_base.specs.Finds.{AreNext}
+use Rattle.lts_base.proofs.FindLaws.{IsNext-from_found}
 use Rattle.walk_core.proofs.WalkLaws.{known_next}
 use Rattle.walk_core.proofs.interned.Interned.next_of.Goals as goal
 

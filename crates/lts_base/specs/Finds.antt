@@ -1,8 +1,12 @@
--- Private: what was found among the states of a system, and what a step of the finding adds.
+-- Promise: what a search among the states of a system has found, and what its steps add.
 use Rattle.std.specs.Prelude.{◌≡◌, ℕ, ◌^◌, ◌<◌, List, [], ◌∷◌, ◌++◌, length, All, Contains, Bool, true, false, ◌⊎◌, ◌≢◌, slice_index_or as get_or}
 use Rattle.std.specs.List.{count_by, AllPairs}
+use Rattle.std.specs.List.Sorted.{IsStrictlyIncreasing}
+use Rattle.lts_base.specs.declared.item.Item.{Item}
+use Rattle.lts_base.specs.System.{System}
+use Rattle.lts_base.specs.Next.{Reaches}
 
--- how many states there are, and the states found in the order of their finds
+-- a search: how many states there are, and the states found in the order of their finds
 pub record Finds : Type 0 where
   pub states : ℕ
   pub found : List ℕ
@@ -32,3 +36,14 @@ IsReached R ps r = (p : ℕ) × Contains ps p × R p r
 pub record AreReached (R : ℕ → ℕ → Type 0) (ps rs : List ℕ) : Type 0 where
   pub each : All (IsReached R ps) rs
   pub all : (p r : ℕ) → Contains ps p → R p r → Contains rs r
+
+-- the states found are those that the item, and then moves with Tau, reach from the members of ps, in any order
+pub record AreNext (s : System) (x : Item) (ps found : List ℕ) : Type 0 where
+  pub each : All (Reaches s ps x) found
+  pub all : (q : ℕ) → Reaches s ps x q → Contains found q
+
+-- a list with the same members, in ascending order
+pub record IsSorted (found sorted : List ℕ) : Type 0 where
+  pub rising : IsStrictlyIncreasing sorted
+  pub each : All (Contains found) sorted
+  pub all : All (Contains sorted) found
